@@ -1,0 +1,13 @@
+//! The texts that every other crate passes round, the answer that no memory was found, and the
+//! operators on primitive values.
+#![tactic(auto)]
+
+mod memory;
+mod operators;
+#[cfg(test)]
+mod tests;
+mod text;
+
+pub use memory::{Mem, NoMemory, OrMemory};
+pub use operators::{BinaryOp, UnaryOp};
+pub use text::{SOURCE_LIMIT, TEXT_LIMIT, Text, TextFault};

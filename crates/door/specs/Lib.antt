@@ -1,0 +1,5 @@
+pub mod Looks
+pub mod Record
+pub mod SameMarks
+pub mod SameRequests
+pub mod SameValues

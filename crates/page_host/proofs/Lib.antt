@@ -1,0 +1,12 @@
+pub mod Options
+pub mod Runs
+pub mod Numerals
+pub mod Commands
+pub mod Forms
+pub mod AsciiTexts
+pub mod Scripts
+pub mod Pieces
+pub mod FormTexts
+pub mod OnlyFile
+pub mod Refusals
+pub mod Prepared

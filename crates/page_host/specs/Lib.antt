@@ -1,0 +1,11 @@
+pub mod Bytes
+pub mod Words
+pub mod Address
+pub mod Page
+pub mod Userscript
+pub mod Faults
+pub mod Names
+pub mod Steps
+pub mod Played
+pub mod Report
+pub mod Run
