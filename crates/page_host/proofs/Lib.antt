@@ -10,3 +10,5 @@ pub mod FormTexts
 pub mod OnlyFile
 pub mod Refusals
 pub mod Prepared
+pub mod Titles
+pub mod Journals

@@ -11,12 +11,16 @@ use Rattle.page_host.specs.Names.{IsOnlyScript, IsOnlyFile}
 use Rattle.page_host.specs.Page.{IsPage}
 use Rattle.page_host.specs.Played.{journal_of}
 use Rattle.page_host.specs.Report.{report_of}
-use Rattle.page_host.specs.Run.{Given, IsRight}
+use Rattle.page_host.specs.Printed.{document_of}
+use Rattle.page_host.specs.Run.{Given, IsRight, input_of}
+use Rattle.page_host.specs.Truth.{IsGenuine}
+use Rattle.page_host.specs.Turns.{IsLawful}
 use Rattle.page_host.specs.Steps.{Fits, IsRefused, Wants, BuiltWords, steps}
 use Rattle.page_host.specs.Userscript.{IsUserscript}
 use Rattle.page_host.specs.Words.{AreRead, AreRunWords, IsCommand, IsGenerateCommand, IsRunCommand}
 use Rattle.page_host.specs.declared.faults.HostFault.TheVariants.{Usage, PageRefused, ReadFault, WriteFault, NoMemory, NotYet}
 use Rattle.page_host.specs.declared.userscript.Expression.{Expression}
+use Rattle.page_host.proofs.Journals.{document_page, genuine, lawful}
 use Rattle.page_host.proofs.OnlyFile.{only_file, only_script}
 
 -- The words are read as a command at this address.
@@ -144,8 +148,10 @@ given_right words (Some files) second third address file page title script name 
         scripted = sym (subst Q (again ∙ h.same) scripted);
         reads = is;
       };
+      lawful = let L : List Mark → Type 0 = λ ms. IsLawful (input_of title script) ms in subst L (sym played) (lawful title script lines);
+      genuine = let G : List Mark → Type 0 = λ ms. IsGenuine ms in subst G (sym played) (genuine title script lines h.titled.titled);
       played = played;
-      reported = reported;
+      reported = reported ∙ ap (λ document. report_of address file document marks) (h.titled.whole ∙ sym (document_page title script lines h.titled.titled) ∙ ap document_of (sym played));
     }
 
 -- what is given fits

@@ -196,3 +196,17 @@ all_read bytes name (b ∷ rest) lines named are e none short = absurd (no_more 
   where
     no_more : (n : ℕ) → true ≡ nat_eq (suc n) 0 → ⊥
     no_more n e = grind (arith, nat_tests)
+
+same_lines : (a b : List Expression) → AreExpressions a → AreExpressions b → flat_map line_text a ≡ flat_map line_text b → a ≡ b
+same_lines [] [] p q e = refl
+same_lines [] (l ∷ b) p q e = absurd (not_empty l (flat_map line_text b) (sym e))
+same_lines (l ∷ a) [] p q e = absurd (not_empty l (flat_map line_text a) e)
+same_lines (l ∷ a) (k ∷ b) p q e =
+    let first = same_line l k (flat_map line_text a) (flat_map line_text b) p.0 q.0 e in
+    ap (λ x. x ∷ a) first.0 ∙ ap (λ xs. k ∷ xs) (same_lines a b p.1 q.1 first.1)
+
+-- the text of a userscript determines its name and what it logs
+pub read_one_way : (bytes name other : List ℕ) (lines more : List Expression) → IsUserscript bytes name lines → IsUserscript bytes other more → (name ≡ other) × (lines ≡ more)
+read_one_way bytes name other lines more is so =
+    let parts = block_name bytes (name ++ (block_end ++ flat_map line_text lines)) name (block_end ++ flat_map line_text lines) other (flat_map line_text more) is.whole refl is.named.inside refl so.named so.whole in
+    (parts.0, same_lines lines more is.logs so.logs (append_cancel_left block_end (flat_map line_text lines) (flat_map line_text more) parts.1))

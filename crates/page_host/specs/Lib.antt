@@ -8,4 +8,8 @@ pub mod Names
 pub mod Steps
 pub mod Played
 pub mod Report
+pub mod Stage
+pub mod Truth
+pub mod Turns
+pub mod Printed
 pub mod Run

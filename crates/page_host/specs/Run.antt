@@ -1,12 +1,15 @@
 -- What a run of the form that is built makes; this project's own.
-use Rattle.std.specs.Prelude.{◌≡◌, ℕ, Bool, false, List, codes, Some}
+use Rattle.std.specs.Prelude.{◌≡◌, ℕ, Bool, false, List, [], ◌∷◌, codes, Some}
 use Rattle.outside.specs.Contents.{Files, content}
 use Rattle.door.specs.declared.marks.Mark.{Mark}
 use Rattle.page_host.specs.Address.{IsPlainAddress}
 use Rattle.page_host.specs.Names.{IsOnlyFile}
 use Rattle.page_host.specs.Page.{IsPage}
-use Rattle.page_host.specs.Played.{journal_of}
+use Rattle.page_host.specs.Played.{journal_of, page_builds}
+use Rattle.page_host.specs.Printed.{document_of}
 use Rattle.page_host.specs.Report.{report_of}
+use Rattle.page_host.specs.Truth.{IsGenuine}
+use Rattle.page_host.specs.Turns.{Input, IsLawful}
 use Rattle.page_host.specs.Userscript.{IsUserscript}
 use Rattle.page_host.specs.Words.{IsRunCommand}
 use Rattle.page_host.specs.declared.userscript.Expression.{Expression}
@@ -28,8 +31,14 @@ pub record Given (words : List (List ℕ)) (files : Files) : Type 0 where
   pub scripted : content files file ≡ Some script
   pub reads : IsUserscript script name lines
 
--- The journal of these marks and the report of these bytes are those of these words and files.
+-- the page of one piece and the userscript that a run is given
+abbrev pub input_of : List ℕ → List ℕ → Input
+input_of title script = record { pieces = page_builds title ∷ []; starts = script ∷ [] }
+
+-- The journal of these marks and the report of these bytes are right for these words and files.
 pub record IsRight (words : List (List ℕ)) (files : Files) (marks : List Mark) (bytes : List ℕ) : Type 0 where
   pub given : Given words files
+  pub lawful : IsLawful (input_of given.title given.script) marks
+  pub genuine : IsGenuine marks
   pub played : marks ≡ journal_of given.title given.script given.lines
-  pub reported : bytes ≡ report_of given.address given.file given.page marks
+  pub reported : bytes ≡ report_of given.address given.file (document_of marks) marks

@@ -16,6 +16,7 @@ mod words;
 
 pub use faults::{HostFault, PageFault, PageKind, fault_line};
 pub use host::{Ended, host_run};
+pub use userscript::scripts_are_read_one_way;
 
 #[cfg(test)]
 mod tests;

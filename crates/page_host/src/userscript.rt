@@ -120,3 +120,8 @@ fn quoted_line(call: &[u8]) -> Option<(&[u8], &[u8])>
     };
     Some((inside, rest))
 }
+
+/// A law: the text of a userscript determines its name and what its lines log.
+pub fn scripts_are_read_one_way()
+    ensures { (bytes name other : List ℕ) (lines more : List Argument) → IsUserscript bytes name lines → IsUserscript bytes other more → (name ≡ other) × (lines ≡ more) }
+{}
