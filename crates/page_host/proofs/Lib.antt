@@ -12,3 +12,4 @@ pub mod Refusals
 pub mod Prepared
 pub mod Titles
 pub mod Journals
+pub mod Acts

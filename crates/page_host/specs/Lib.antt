@@ -12,4 +12,6 @@ pub mod Stage
 pub mod Truth
 pub mod Turns
 pub mod Printed
+pub mod View
+pub mod Machine
 pub mod Run

@@ -89,7 +89,7 @@ changed i s member thing arguments = s
 
 -- an answer that refuses its request
 abbrev pub is_refusal : Answer → Bool
-is_refusal (Throw kind) = true
+is_refusal (Throw _) = true
 is_refusal given = false
 
 -- what a turn makes of the stage
