@@ -11,9 +11,10 @@ use Rattle.door.specs.declared.values.Actor.{Actor}
 use Rattle.page_host.specs.declared.userscript.Expression.{Expression}
 use Rattle.page_host.specs.declared.userscript.Expression.TheVariants.{Title, Number, Quoted}
 use Rattle.page_host.specs.Machine.{Fresh, IsSolo, Over, Show, deeds, logging, serving, shows, solo_from}
-use Rattle.page_host.specs.Played.{journal_of, line_units, lines_marks, lines_units, load_marks, the_document, the_script, the_window, told_title}
+use Rattle.page_host.specs.Played.{journal_of, line_units, lines_marks, lines_units, load_marks, told_title}
+use Rattle.page_host.specs.Things.{the_document, the_script, the_window, the_page}
 use Rattle.page_host.specs.Userscript.{IsUserscript}
-use Rattle.page_host.specs.View.{Met, Seen, at_start, is_actor, the_page, view_from, view_of}
+use Rattle.page_host.specs.View.{Met, Seen, at_start, is_actor, view_from, view_of}
 use Rattle.door.specs.declared.marks.Entry.TheVariants.{Script}
 
 -- once the document was met

@@ -13,11 +13,13 @@ use Rattle.door.specs.declared.marks.Mark.TheVariants.{Leave, Turn, Enter, Build
 use Rattle.page_host.specs.declared.userscript.Expression.{Expression}
 use Rattle.page_host.specs.declared.userscript.Expression.TheVariants.{Title, Number, Quoted}
 use Rattle.page_host.specs.Page.{IsTitle, page_text}
-use Rattle.page_host.specs.Played.{document_ask, title_ask, log_ask, event_marks, journal_of, line_marks, lines_marks, lines_units, load_marks, logged_text, page_builds, piece_marks, ready_marks, script_marks, the_document, the_script, the_window, told_title}
+use Rattle.page_host.specs.Pieces.{page_builds}
+use Rattle.page_host.specs.Played.{document_ask, title_ask, log_ask, journal_of, line_marks, lines_marks, lines_units, load_marks, logged_text, piece_marks, ready_marks, script_marks, told_title}
+use Rattle.page_host.specs.Things.{the_document, the_script, the_window}
+use Rattle.page_host.specs.Turns.{event_marks, AreAsksOf, IsLawful, host_event}
 use Rattle.page_host.specs.Printed.{document_of, printed, shown}
 use Rattle.page_host.specs.Stage.{LEVELS, Stage, after, stage_from, stage_of, start}
 use Rattle.page_host.specs.Truth.{IsGenuine, IsGenuineAfter, collapsed, title_of}
-use Rattle.page_host.specs.Turns.{AreAsksOf, IsLawful, host_event}
 use Rattle.std.proofs.lemmas.Str.Ascii.{encodes-IsAscii}
 use Rattle.page_host.proofs.AsciiTexts.{ascii-IsAscii}
 use Rattle.page_host.proofs.FormTexts.{title_ascii}

@@ -20,6 +20,10 @@ use Rattle.page_host.specs.Userscript.{IsUserscript}
 use Rattle.page_host.specs.Words.{AreRead, AreRunWords, IsCommand, IsGenerateCommand, IsRunCommand}
 use Rattle.page_host.specs.declared.faults.HostFault.TheVariants.{Usage, PageRefused, ReadFault, WriteFault, NoMemory, NotYet}
 use Rattle.page_host.specs.declared.userscript.Expression.{Expression}
+use Rattle.page_host.specs.Machine.{IsSolo}
+use Rattle.page_host.specs.Things.{the_page, the_script}
+use Rattle.page_host.specs.View.{view_of}
+use Rattle.page_host.proofs.Acts.{page_unseen, script_solo}
 use Rattle.page_host.proofs.Journals.{document_page, genuine, lawful}
 use Rattle.page_host.proofs.OnlyFile.{only_file, only_script}
 
@@ -150,7 +154,8 @@ given_right words (Some files) second third address file page title script name 
       };
       lawful = let L : List Mark → Type 0 = λ ms. IsLawful (input_of title script) ms in subst L (sym played) (lawful title script lines);
       genuine = let G : List Mark → Type 0 = λ ms. IsGenuine ms in subst G (sym played) (genuine title script lines h.titled.titled);
-      played = played;
+      acts = let A : List Mark → Type 0 = λ ms. IsSolo script (view_of the_script ms) in subst A (sym played) (script_solo title script name lines is);
+      idle = ap (view_of the_page) played ∙ page_unseen title script lines;
       reported = reported ∙ ap (λ document. report_of address file document marks) (h.titled.whole ∙ sym (document_page title script lines h.titled.titled) ∙ ap document_of (sym played));
     }
 

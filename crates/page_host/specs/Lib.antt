@@ -8,6 +8,8 @@ pub mod Names
 pub mod Steps
 pub mod Played
 pub mod Report
+pub mod Things
+pub mod Pieces
 pub mod Stage
 pub mod Truth
 pub mod Turns

@@ -1,5 +1,5 @@
 -- What a script does by itself, given only what it is shown; this project's own.
-use Rattle.std.specs.Prelude.{◌≡◌, ◌+◌, ℕ, Bool, List, [], ◌∷◌, if◌then◌else◌}
+use Rattle.std.specs.Prelude.{◌≡◌, ◌+◌, ◌/◌, ℕ, Bool, length, encode_utf8_all, List, [], ◌∷◌, if◌then◌else◌}
 use Rattle.std.specs.Str.{bytes_eq}
 use Rattle.door.specs.declared.values.Thing.{Thing}
 use Rattle.door.specs.declared.values.Value.TheVariants.{Thing as ThingValue, Str}
@@ -12,7 +12,7 @@ use Rattle.door.specs.declared.marks.Entry.{Entry}
 use Rattle.door.specs.declared.marks.Entry.TheVariants.{Script}
 use Rattle.door.specs.declared.marks.Outcome.TheVariants.{Done}
 use Rattle.std.specs.Fmt.{decimal}
-use Rattle.page_host.specs.Played.{text_units, the_window}
+use Rattle.page_host.specs.Things.{the_window}
 use Rattle.page_host.specs.Userscript.{IsUserscript}
 use Rattle.page_host.specs.View.{Act, Leaves, Seen, Entered, Asked, Said, Returned}
 use Rattle.page_host.specs.declared.userscript.Expression.{Expression}
@@ -83,6 +83,10 @@ solo serve fresh more = solo_from serve (Awaits LEVELS_OF_ACTOR fresh (λ m answ
 -- what the machine of a script of the form that is read holds: nothing
 pub data Empty : Type 0 where
   Fresh : Empty
+
+-- one unit for each started 64 bytes of a text that is made
+abbrev pub text_units : List ℕ → ℕ
+text_units text = (length (encode_utf8_all text) + 63) / 64
 
 -- goes on with a thing that is answered
 abbrev pub with_thing : (Thing → Tree Empty) → Answer → Tree Empty

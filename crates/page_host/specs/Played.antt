@@ -18,6 +18,10 @@ use Rattle.door.specs.declared.marks.Outcome.TheVariants.{Done}
 use Rattle.door.specs.declared.marks.Mark.{Mark}
 use Rattle.door.specs.declared.marks.Mark.TheVariants.{Turn, Build, Enter, Ask, Dispatch, Back, Leave}
 use Rattle.page_host.specs.Bytes.{is_blank}
+use Rattle.page_host.specs.Machine.{text_units}
+use Rattle.page_host.specs.Pieces.{page_builds}
+use Rattle.page_host.specs.Things.{the_document, the_script, the_window}
+use Rattle.page_host.specs.Turns.{event_marks}
 use Rattle.page_host.specs.declared.userscript.Expression.{Expression}
 use Rattle.page_host.specs.declared.userscript.Expression.TheVariants.{Title, Number, Quoted}
 
@@ -25,56 +29,9 @@ use Rattle.page_host.specs.declared.userscript.Expression.TheVariants.{Title, Nu
 abbrev pub Adds : Record → Record → List Mark → Type 0
 Adds old new more = new ≡ record old { marks = old.marks ++ more }
 
--- a thing of a kind, by its number
-abbrev pub thing_of : Kind → ℕ → Thing
-thing_of kind number = record { kind = kind; number = number }
-
--- the window is a thing
-abbrev pub the_window : Thing
-the_window = thing_of Window 0
-
--- the document is the first node
-abbrev pub the_document : Thing
-the_document = thing_of Document 0
-
--- the host acts first
-abbrev pub the_host : Actor
-the_host = record { 0 = 0 }
-
--- the first userscript
-abbrev pub the_script : Actor
-the_script = record { 0 = 2 }
-
--- `Document.createElement` (DOM, Interface Document)
-abbrev pub creates : List ℕ → Request
-creates tag = Native DocumentCreateElement the_document (Str tag ∷ [])
-
--- `Document.createTextNode` (DOM, Interface Document)
-abbrev pub writes : List ℕ → Request
-writes text = Native DocumentCreateTextNode the_document (Str text ∷ [])
-
--- `Node.appendChild` (DOM, Interface Node)
-abbrev pub appends : Thing → Thing → Request
-appends parent child = Native NodeAppendChild parent (ThingValue child ∷ [])
-
--- the requests that build the page of this title, each node right before it is appended
-abbrev pub page_builds : List ℕ → List Request
-page_builds title =
-    creates (codes "html") ∷ (appends the_document (thing_of Element 1)
-    ∷ (creates (codes "head") ∷ (appends (thing_of Element 1) (thing_of Element 2)
-    ∷ (creates (codes "title") ∷ (appends (thing_of Element 2) (thing_of Element 3)
-    ∷ (writes title ∷ (appends (thing_of Element 3) (thing_of StrKind 4)
-    ∷ (creates (codes "body") ∷ (appends (thing_of Element 1) (thing_of Element 5) ∷ [])))))))))
-
 -- the turn of the page's one piece
 abbrev pub piece_marks : List ℕ → List Mark
 piece_marks title = Turn (Piece 0) ∷ map (λ request. Build request) (page_builds title)
-
--- the host makes the event of this number, which isn't cancelable, and dispatches it, and nobody listens (DOM, Dispatching events)
-abbrev pub event_marks : ℕ → List ℕ → Bool → Thing → List Mark
-event_marks number kind bubbles target =
-    Build (Native NewEvent the_window (Str kind ∷ (BoolValue bubbles ∷ (BoolValue false ∷ (Null ∷ [])))))
-    ∷ (Dispatch the_host number target ∷ (Back the_host (ValueAnswer (BoolValue true)) ∷ []))
 
 -- the turn of DOMContentLoaded (HTML, The end)
 abbrev pub ready_marks : List Mark
@@ -121,10 +78,6 @@ abbrev pub value_units : Expression → ℕ
 value_units Title = 4
 value_units (Number n) = 1
 value_units (Quoted text) = 1
-
--- one unit for each started 64 bytes of a text that is made
-abbrev pub text_units : List ℕ → ℕ
-text_units text = (length (encode_utf8_all text) + 63) / 64
 
 -- the statement, the call, the name that is called, the argument, the text and the request
 abbrev pub line_units : List ℕ → Expression → ℕ

@@ -16,6 +16,7 @@ use Rattle.door.specs.declared.marks.Task.{Task}
 use Rattle.door.specs.declared.marks.Task.TheVariants.{Ready, Load}
 use Rattle.door.specs.declared.marks.Mark.{Mark}
 use Rattle.door.specs.declared.marks.Mark.TheVariants.{Turn, Build, Ask}
+use Rattle.page_host.specs.Things.{the_host}
 
 -- what a node is: the document, an element of a tag, or a text
 pub data Form : Type 0 where
@@ -48,13 +49,9 @@ pub record Stage : Type 0 where
   pub events : List Event
   pub readiness : Readiness
 
--- the host acts first
-abbrev pub host : Actor
-host = record { 0 = 0 }
-
 -- the document alone, which the host made
 abbrev pub start : Stage
-start = record { nodes = record { maker = host; form = Root; children = [] } ∷ []; events = []; readiness = Loading }
+start = record { nodes = record { maker = the_host; form = Root; children = [] } ∷ []; events = []; readiness = Loading }
 
 -- a node more, under the next number
 abbrev pub with_node : Actor → Stage → Form → Stage
@@ -106,7 +103,7 @@ requested i s request = s
 -- one mark; a request that is refused changes nothing
 abbrev pub after : Stage → Mark → Stage
 after s (Turn task) = turned s task
-after s (Build request) = requested host s request
+after s (Build request) = requested the_host s request
 after s (Ask i request given) = if is_refusal given then s else requested i s request
 after s mark = s
 
@@ -125,7 +122,7 @@ LEVELS = 257
 
 -- the node of a number
 abbrev pub node_at : Stage → ℕ → Node
-node_at s n = unwrap_or (slice_get s.nodes n) (record { maker = host; form = Root; children = [] })
+node_at s n = unwrap_or (slice_get s.nodes n) (record { maker = the_host; form = Root; children = [] })
 
 -- a node and all below it in tree order (DOM, Trees)
 abbrev pub in_order : ℕ → Stage → ℕ → List ℕ

@@ -2,15 +2,19 @@
 use Rattle.std.specs.Prelude.{◌≡◌, ◌+◌, ℕ, Bool, true, false, List, [], ◌∷◌, ◌++◌, map, length, codes, slice_get, Option, Some, None}
 use Rattle.door.specs.declared.values.Actor.{Actor}
 use Rattle.door.specs.declared.values.Thing.{Thing}
+use Rattle.door.specs.declared.values.Value.TheVariants.{Str, Bool as BoolValue, Null}
+use Rattle.door.specs.declared.members.Member.TheVariants.{NewEvent}
 use Rattle.door.specs.declared.requests.Request.{Request}
+use Rattle.door.specs.declared.requests.Request.TheVariants.{Native}
+use Rattle.door.specs.declared.requests.Answer.TheVariants.{Value as ValueAnswer}
 use Rattle.door.specs.declared.marks.Task.{Task}
 use Rattle.door.specs.declared.marks.Task.TheVariants.{Start, Piece, Ready, Load}
 use Rattle.door.specs.declared.marks.Entry.TheVariants.{Script}
 use Rattle.door.specs.declared.marks.Outcome.{Outcome}
 use Rattle.door.specs.declared.marks.Mark.{Mark}
-use Rattle.door.specs.declared.marks.Mark.TheVariants.{Turn, Build, Enter, Ask, Leave}
+use Rattle.door.specs.declared.marks.Mark.TheVariants.{Turn, Build, Enter, Ask, Dispatch, Back, Leave}
 use Rattle.page_host.specs.Stage.{stage_of}
-use Rattle.page_host.specs.Played.{event_marks, the_document, the_window}
+use Rattle.page_host.specs.Things.{the_document, the_host, the_window}
 
 -- what a run is given: the requests that build each piece of the page, and the texts of the userscripts that start, in order
 pub record Input : Type 0 where
@@ -43,6 +47,12 @@ pub record IsEntry (i : Actor) (text : List ℕ) (marks : List Mark) : Type 0 wh
 -- the host makes these requests
 abbrev pub builds_of : List Request → List Mark
 builds_of requests = map (λ request. Build request) requests
+
+-- the host makes the event of this number, which isn't cancelable, and dispatches it, and nobody listens (DOM, Dispatching events)
+abbrev pub event_marks : ℕ → List ℕ → Bool → Thing → List Mark
+event_marks number kind bubbles target =
+    Build (Native NewEvent the_window (Str kind ∷ (BoolValue bubbles ∷ (BoolValue false ∷ (Null ∷ [])))))
+    ∷ (Dispatch the_host number target ∷ (Back the_host (ValueAnswer (BoolValue true)) ∷ []))
 
 -- the host makes an event and dispatches it, after these marks, and nobody listens
 abbrev pub host_event : List Mark → List ℕ → Bool → Thing → List Mark

@@ -166,7 +166,3 @@ view_from i met (mark ∷ marks) = seen_of i met mark ++ view_from i (learnt i m
 -- an actor's view of a journal
 abbrev pub view_of : Actor → List Mark → List Seen
 view_of i marks = view_from i at_start marks
-
--- the page acts before the userscripts
-abbrev pub the_page : Actor
-the_page = record { 0 = 1 }

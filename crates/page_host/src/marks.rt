@@ -1,6 +1,8 @@
 //! The marks that a run of the first form is made of, each added to a journal that has room for it.
 
-ghost use Rattle.page_host.specs.Played.{Adds, appends, creates, document_ask, event_marks, log_ask, title_ask, writes};
+ghost use Rattle.page_host.specs.Pieces.{appends, creates, writes};
+ghost use Rattle.page_host.specs.Played.{Adds, document_ask, log_ask, title_ask};
+ghost use Rattle.page_host.specs.Turns.{event_marks};
 ghost use Rattle.door.specs.declared.values.Kind.TheVariants.{Element};
 ghost use Rattle.std.specs.Prelude.{◌≡◌, ◌+◌, ◌<◌, ◌≤◌, [], ◌∷◌, length, IfOk, IsTrue, OnOk};
 ghost use Rattle.std.specs.List.{list_all};

@@ -1,6 +1,7 @@
 //! The run of a userscript whose lines each log one expression.
 
-ghost use Rattle.page_host.specs.Played.{Adds, line_marks, line_units, lines_marks, lines_units, logged_text, text_units, value_marks, value_units};
+ghost use Rattle.page_host.specs.Machine.{text_units};
+ghost use Rattle.page_host.specs.Played.{Adds, line_marks, line_units, lines_marks, lines_units, logged_text, value_marks, value_units};
 ghost use Rattle.std.specs.Prelude.{◌≡◌, ◌+◌, ◌*◌, ◌≤◌, length, IfOk, OnOk};
 
 use crate::marks::{ask_log, ask_title};
