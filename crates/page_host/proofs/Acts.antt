@@ -10,7 +10,7 @@ use Rattle.door.specs.declared.marks.Mark.TheVariants.{Leave}
 use Rattle.door.specs.declared.values.Actor.{Actor}
 use Rattle.page_host.specs.declared.userscript.Expression.{Expression}
 use Rattle.page_host.specs.declared.userscript.Expression.TheVariants.{Title, Number, Quoted}
-use Rattle.page_host.specs.Machine.{Fresh, IsSolo, Over, Show, deeds, logging, serving, shows, solo_from}
+use Rattle.page_host.specs.Machine.{Fails, Fresh, IsSolo, Show, deeds, logging, serving, shows, solo_from}
 use Rattle.page_host.specs.Played.{journal_of, line_units, lines_marks, lines_units, load_marks, told_title}
 use Rattle.page_host.specs.Things.{the_document, the_script, the_window, the_page}
 use Rattle.page_host.specs.Userscript.{IsUserscript}
@@ -30,7 +30,7 @@ seen_after met told lines total = view_from the_script met (lines_marks told lin
 
 abbrev same_deeds : Met → List ℕ → List ℕ → List Expression → List Expression → ℕ → ℕ → Type 0
 same_deeds met text told all lines units total =
-    deeds (seen_after met told lines total) ≡ solo_from (serving text all) (logging lines units 480 Fresh (λ m answer. Over)) (shows (seen_after met told lines total))
+    deeds (seen_after met told lines total) ≡ solo_from (serving text all) (logging lines units 480 Fresh (λ m answer. Fails)) (shows (seen_after met told lines total))
 
 no_lines : (met : Met) (text told : List ℕ) (all : List Expression) (units total : ℕ) → total ≡ units + 0 → same_deeds met text told all [] units total
 no_lines met text told all units total e =
@@ -69,7 +69,7 @@ own_text : (text : List ℕ) → IsTrue (bytes_eq text text)
 own_text text = (bytes_eq-Decides text text).1 refl
 
 -- entered by its own text
-entered_by : (text : List ℕ) (lines : List Expression) (more : List Show) → solo_from (serving text lines) (serving text lines (Script text) 480 Fresh (λ m answer. Over)) more ≡ solo_from (serving text lines) (logging lines 0 480 Fresh (λ m answer. Over)) more
+entered_by : (text : List ℕ) (lines : List Expression) (more : List Show) → solo_from (serving text lines) (serving text lines (Script text) 480 Fresh (λ m answer. Fails)) more ≡ solo_from (serving text lines) (logging lines 0 480 Fresh (λ m answer. Fails)) more
 entered_by text lines more = rw (own_text text) refl
 
 -- the whole journal
@@ -78,7 +78,7 @@ script_solo title text name lines is =
     let told = told_title title in
     let total = lines_units told lines in
     let leave = Leave the_script Done total ∷ [] in
-    let P : List Mark → Type 0 = λ marks. deeds (view_from the_script at_start marks) ≡ solo_from (serving text lines) (logging lines 0 480 Fresh (λ m answer. Over)) (shows (view_from the_script at_start marks)) in
+    let P : List Mark → Type 0 = λ marks. deeds (view_from the_script at_start marks) ≡ solo_from (serving text lines) (logging lines 0 480 Fresh (λ m answer. Fails)) (shows (view_from the_script at_start marks)) in
     let acted = subst P (sym (append_assoc (lines_marks told lines) leave load_marks)) (solo_lines text told lines lines 0 total (from_zero total)) in
     record { name = name; lines = lines; reads = is; same = acted ∙ sym (entered_by text lines (shows (view_from the_script at_start ((lines_marks told lines ++ leave) ++ load_marks)))) }
   where

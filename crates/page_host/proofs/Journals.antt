@@ -1,5 +1,5 @@
 -- The journal of a page of one title is lawful and genuine, and its document is printed as the page was.
-use Rattle.std.proofs.Common.{◌≡◌, ◌∙◌, ap, sym, refl, subst, ℕ, ◌+◌, true, false, List, [], ◌∷◌, ◌++◌, map, length, append_assoc, codes, encode_utf8_all}
+use Rattle.std.proofs.Common.{◌≡◌, ◌∙◌, ap, sym, refl, subst, ℕ, ◌+◌, true, false, List, [], ◌∷◌, ◌++◌, map, length, append_assoc, codes, encode_utf8_all, Some}
 use Rattle.std.proofs.lemmas.List.{append-nil}
 use Rattle.std.specs.List.{flat_map}
 use Rattle.std.specs.Char.{encode_utf8}
@@ -48,7 +48,7 @@ lines-genuine told (Title ∷ lines) before rest h r =
     let first = kept before document_ask told refl h in
     let second = kept (before ++ document_ask ∷ []) (title_ask told) told refl first in
     let third = kept ((before ++ document_ask ∷ []) ++ title_ask told ∷ []) (log_ask told) told refl second in
-    (refl, (ap (λ t. ValueAnswer (Str t)) (sym first), (refl, lines-genuine told lines (((before ++ document_ask ∷ []) ++ title_ask told ∷ []) ++ log_ask told ∷ []) rest third r)))
+    (refl, (ap (λ t. Some (ValueAnswer (Str t))) (sym first), (refl, lines-genuine told lines (((before ++ document_ask ∷ []) ++ title_ask told ∷ []) ++ log_ask told ∷ []) rest third r)))
 lines-genuine told (Number n ∷ lines) before rest h r =
     let text = logged_text told (Number n) in (refl, lines-genuine told lines (before ++ log_ask text ∷ []) rest (kept before (log_ask text) told refl h) r)
 lines-genuine told (Quoted text ∷ lines) before rest h r = (refl, lines-genuine told lines (before ++ log_ask text ∷ []) rest (kept before (log_ask text) told refl h) r)
@@ -59,10 +59,10 @@ ended told lines = Leave the_script Done (lines_units told lines) ∷ load_marks
 
 pub genuine : (title text : List ℕ) (lines : List Expression) → IsTitle title → IsGenuine (journal_of title text lines)
 genuine title text lines h =
-    let asked = lines-genuine (told_title title) lines (entered title text) (ended (told_title title) lines) (built_title title text h) (λ p. (tt, (tt, (tt, (tt, (tt, tt)))))) in
+    let asked = lines-genuine (told_title title) lines (entered title text) (ended (told_title title) lines) (built_title title text h) (λ p. (tt, (tt, (tt, (refl, (refl, tt)))))) in
     let P : List Mark → Type 0 = λ marks. IsGenuineAfter (entered title text) marks in
     let joined = subst P (sym (append_assoc (lines_marks (told_title title) lines) (Leave the_script Done (lines_units (told_title title) lines) ∷ []) load_marks)) asked in
-    (tt, (tt, (tt, (tt, (tt, (tt, (tt, (tt, (tt, (tt, (tt, (tt, (tt, (tt, (tt, (tt, (tt, joined)))))))))))))))))
+    (tt, (tt, (tt, (tt, (tt, (tt, (tt, (tt, (tt, (tt, (tt, (tt, (tt, (refl, (refl, (tt, (tt, joined)))))))))))))))))
 
 -- the requests of the lines leave the stage as it is
 lines-stage : (told : List ℕ) (lines : List Expression) (s : Stage) (rest : List Mark) → stage_from s (lines_marks told lines ++ rest) ≡ stage_from s rest

@@ -152,3 +152,44 @@ only_script files names file are is = record {
     listed (y, among, q) =
         let P : List ℕ → Type 0 = λ z. IsSome (content files z) in
         some_not_none (content files (codes "events.txt")) is.no_events (subst P (events_named y q) ((are.held y).0 among))
+
+-- its name is a userscript's
+pub script_named : (names : List (List ℕ)) (file : List ℕ) → IsOnlyScript names file → is_userscript file ≡ true
+script_named names file is = let P : List (List ℕ) → Type 0 = λ l. Contains l file in (from_filter is_userscript names file (subst P (sym is.only) (here file []))).1
+
+-- a userscript's name is no other name
+other_name : (name file : List ℕ) → is_userscript name ≡ false → is_userscript file ≡ true → bytes_eq name file ≡ false
+other_name name file isnt is =
+    elim (bytes_eq name file) as (λ b. bytes_eq name file ≡ b → b ≡ false) [
+      | true ↦ λ e. let clash : true ≡ false = sym is ∙ ap is_userscript (sym ((bytes_eq-Decides name file).0 e)) ∙ isnt in cc
+      | false ↦ λ e. refl
+    ] refl
+
+other_file : (name file : List ℕ) → is_userscript name ≡ false → is_userscript file ≡ true → bytes_eq file name ≡ false
+other_file name file isnt is =
+    elim (bytes_eq file name) as (λ b. bytes_eq file name ≡ b → b ≡ false) [
+      | true ↦ λ e. let clash : true ≡ false = sym is ∙ ap is_userscript ((bytes_eq-Decides file name).0 e) ∙ isnt in cc
+      | false ↦ λ e. refl
+    ] refl
+
+-- a page and a userscript alone
+abbrev pub the_two : List ℕ → List ℕ → List ℕ → Files
+the_two file page script = (codes "page.html", page) ∷ ((file, script) ∷ [])
+
+pub two_script : (file page script : List ℕ) → is_userscript file ≡ true → content (the_two file page script) file ≡ Some script
+two_script file page script is = rw (other_name (codes "page.html") file refl is, (bytes_eq-Decides file file).1 refl) refl
+
+pub two_only : (file page script : List ℕ) → is_userscript file ≡ true → IsOnlyFile (the_two file page script) file
+two_only file page script is = record {
+  there = rw (two_script file page script is) refl;
+  script = is;
+  only = λ other held userscript. alone other held userscript;
+  no_events = rw (other_file (codes "events.txt") file refl is) refl;
+}
+  where
+    alone : (other : List ℕ) → IsSome (content (the_two file page script) other) → is_userscript other ≡ true → other ≡ file
+    alone other held userscript =
+        elim (bytes_eq file other) as (λ b. bytes_eq file other ≡ b → other ≡ file) [
+          | true ↦ λ e. sym ((bytes_eq-Decides file other).0 e)
+          | false ↦ λ e. let none : content (the_two file page script) other ≡ None = rw (other_name (codes "page.html") other refl userscript, e) refl in absurd (some_not_none (content (the_two file page script) other) none held)
+        ] refl

@@ -12,7 +12,7 @@ use Rattle.page_host.specs.Page.{IsPage}
 use Rattle.page_host.specs.Played.{journal_of}
 use Rattle.page_host.specs.Report.{report_of}
 use Rattle.page_host.specs.Printed.{document_of}
-use Rattle.page_host.specs.Run.{Given, IsRight, input_of}
+use Rattle.page_host.specs.Run.{Given, IsRight, IsRightOver, input_of}
 use Rattle.page_host.specs.Truth.{IsGenuine}
 use Rattle.page_host.specs.Turns.{IsLawful}
 use Rattle.page_host.specs.Steps.{Fits, IsRefused, Wants, BuiltWords, steps}
@@ -25,7 +25,7 @@ use Rattle.page_host.specs.Things.{the_page, the_script}
 use Rattle.page_host.specs.View.{view_of}
 use Rattle.page_host.proofs.Acts.{page_unseen, script_solo}
 use Rattle.page_host.proofs.Journals.{document_page, genuine, lawful}
-use Rattle.page_host.proofs.OnlyFile.{only_file, only_script}
+use Rattle.page_host.proofs.OnlyFile.{only_file, only_script, script_named, the_two, two_only, two_script}
 
 -- The words are read as a command at this address.
 pub record Addressed (words : List (List ℕ)) (address : List ℕ) : Type 0 where
@@ -128,35 +128,49 @@ script_refused words (Some files) second third address file page title names fou
       ),
     )
 
+made_right : (words : List (List ℕ)) (files : Files) (address file page title script name : List ℕ) (lines : List Expression) (marks : List Mark) (bytes : List ℕ) → Addressed words address → IsOnlyFile files file → IsPage page title
+    → content files (codes "page.html") ≡ Some page → content files file ≡ Some script → IsUserscript script name lines → marks ≡ journal_of title script lines → bytes ≡ report_of address file page marks → IsRight words files marks bytes
+made_right words files address file page title script name lines marks bytes addressed only titled paged scripted is played reported = record {
+  given = record {
+    address = address;
+    file = file;
+    page = page;
+    title = title;
+    script = script;
+    name = name;
+    lines = lines;
+    command = addressed.command;
+    plain = addressed.plain;
+    only = only;
+    paged = paged;
+    titled = titled;
+    scripted = scripted;
+    reads = is;
+  };
+  lawful = let L : List Mark → Type 0 = λ ms. IsLawful (input_of title script) ms in subst L (sym played) (lawful title script lines);
+  genuine = let G : List Mark → Type 0 = λ ms. IsGenuine ms in subst G (sym played) (genuine title script lines titled.titled);
+  acts = let A : List Mark → Type 0 = λ ms. IsSolo script (view_of the_script ms) in subst A (sym played) (script_solo title script name lines is);
+  idle = ap (view_of the_page) played ∙ page_unseen title script lines;
+  reported = reported ∙ ap (λ document. report_of address file document marks) (titled.whole ∙ sym (document_page title script lines titled.titled) ∙ ap document_of (sym played));
+}
+
 pub given_right : (words : List (List ℕ)) (told second third : Option Files) (address file page title script name : List ℕ) (lines : List Expression) (names : List (List ℕ)) (marks : List Mark) (bytes : List ℕ)
     → Before words told second address file page title names → third ≡ second → IfSome third (λ files. Some script ≡ content files file) → IsUserscript script name lines → marks ≡ journal_of title script lines → bytes ≡ report_of address file page marks
-    → IfSome told (λ files. IsRight words files marks bytes)
-given_right words None second third address file page title script name lines names marks bytes h again scripted is played reported = tt
+    → IsRightOver words told marks bytes
+given_right words None second third address file page title script name lines names marks bytes h again scripted is played reported =
+    let userscript = script_named names file h.only in
+    record {
+      files = the_two file page script;
+      told_so = tt;
+      right = made_right words (the_two file page script) address file page title script name lines marks bytes h.addressed (two_only file page script userscript) h.titled refl (two_script file page script userscript) is played reported;
+    }
 given_right words (Some files) second third address file page title script name lines names marks bytes h again scripted is played reported =
     let P : Option Files → Type 0 = λ o. IfSome o (λ files. content files (codes "page.html") ≡ Some page) in
     let Q : Option Files → Type 0 = λ o. IfSome o (λ files. Some script ≡ content files file) in
     record {
-      given = record {
-        address = address;
-        file = file;
-        page = page;
-        title = title;
-        script = script;
-        name = name;
-        lines = lines;
-        command = h.addressed.command;
-        plain = h.addressed.plain;
-        only = only_file files names file h.named h.only;
-        paged = subst P h.same h.paged;
-        titled = h.titled;
-        scripted = sym (subst Q (again ∙ h.same) scripted);
-        reads = is;
-      };
-      lawful = let L : List Mark → Type 0 = λ ms. IsLawful (input_of title script) ms in subst L (sym played) (lawful title script lines);
-      genuine = let G : List Mark → Type 0 = λ ms. IsGenuine ms in subst G (sym played) (genuine title script lines h.titled.titled);
-      acts = let A : List Mark → Type 0 = λ ms. IsSolo script (view_of the_script ms) in subst A (sym played) (script_solo title script name lines is);
-      idle = ap (view_of the_page) played ∙ page_unseen title script lines;
-      reported = reported ∙ ap (λ document. report_of address file document marks) (h.titled.whole ∙ sym (document_page title script lines h.titled.titled) ∙ ap document_of (sym played));
+      files = files;
+      told_so = refl;
+      right = made_right words files address file page title script name lines marks bytes h.addressed (only_file files names file h.named h.only) h.titled (subst P h.same h.paged) (sym (subst Q (again ∙ h.same) scripted)) is played reported;
     }
 
 -- what is given fits
@@ -192,7 +206,7 @@ make_refused words told second third address file page title script names (Err e
 -- the run is made
 pub make_right : (words : List (List ℕ)) (told second third : Option Files) (address file page title script : List ℕ) (names : List (List ℕ)) (r : Result Made HostFault) → Before words told second address file page title names → third ≡ second
     → IfSome third (λ files. Some script ≡ content files file) → IfOk r (λ made. (name : List ℕ) × (lines : List Expression) × IsUserscript script name lines × (made.journal.marks ≡ journal_of title script lines))
-    → IfOk r (λ made. made.report.items ≡ report_of address file page made.journal.marks) → IfOk r (λ made. IfSome told (λ files. IsRight words files made.journal.marks made.report.items))
+    → IfOk r (λ made. made.report.items ≡ report_of address file page made.journal.marks) → IfOk r (λ made. IsRightOver words told made.journal.marks made.report.items)
 make_right words told second third address file page title script names (Ok made) h again scripted played reported =
     given_right words told second third address file page title script played.0 played.1 names made.journal.marks made.report.items h again scripted played.2 played.3 reported
 make_right words told second third address file page title script names (Err e) h again scripted played reported = tt
@@ -220,10 +234,13 @@ err_complete words (Some files) WriteFault status R S s is write read = absurd (
 err_complete words (Some files) NoMemory status R S s is write read = λ fits _ _. inr (inl s)
 
 -- what is right isn't refused
-pub ok_refused : (words : List (List ℕ)) (told : Option Files) (marks : List Mark) (bytes : List ℕ) (status : ℕ) → IfSome told (λ files. IsRight words files marks bytes)
+pub ok_refused : (words : List (List ℕ)) (told : Option Files) (marks : List Mark) (bytes : List ℕ) (status : ℕ) → IsRightOver words told marks bytes
     → IfSome told (λ files. (fault : HostFault) → IsRefused words files fault → IsOneOf status (status_of fault ∷ (6 ∷ (11 ∷ []))))
-ok_refused words None marks bytes status right = tt
-ok_refused words (Some files) marks bytes status right = λ fault is. absurd (no_fault words files steps fault (given_fits words files right.given) is)
+ok_refused words None marks bytes status over = tt
+ok_refused words (Some files) marks bytes status over =
+    λ fault is.
+    let R : Files → Type 0 = λ all. IsRefused words all fault in
+    absurd (no_fault words over.files steps fault (given_fits words over.files over.right.given) (subst R over.told_so is))
 
 pub ok_complete : (words : List (List ℕ)) (told : Option Files) (status : ℕ) (R S : Type 0) → IsOneOf status (0 ∷ (8 ∷ (11 ∷ []))) → (status ≡ 8 → S) → IfSome told (λ files. Fits words files → ¬ R → ¬ S → IsOneOf status (0 ∷ (11 ∷ [])))
 ok_complete words None status R S one write = tt
@@ -232,11 +249,8 @@ ok_complete words (Some files) status R S (inr (inl s)) write = λ _ _ none. abs
 ok_complete words (Some files) status R S (inr (inr s)) write = λ _ _ _. inr s
 
 -- the report that was made, and what is said of its bytes
-pub with_report : (words : List (List ℕ)) (told : Option Files) (marks other : List Mark) (bytes : List ℕ) (P : List ℕ → Type 0) → other ≡ marks → IfSome told (λ files. IsRight words files marks bytes) → P bytes
-    → IfSome told (λ files. (b : List ℕ) × IsRight words files other b × P b)
-with_report words None marks other bytes P same right said = tt
-with_report words (Some files) marks other bytes P same right said =
-    let Q : List Mark → Type 0 = λ ms. IsRight words files ms bytes in (bytes, subst Q (sym same) right, said)
+pub with_report : (words : List (List ℕ)) (told : Option Files) (marks other : List Mark) (bytes : List ℕ) (P : List ℕ → Type 0) → other ≡ marks → IsRightOver words told marks bytes → P bytes → (b : List ℕ) × IsRightOver words told other b × P b
+with_report words told marks other bytes P same over said = let Q : List Mark → Type 0 = λ ms. IsRightOver words told ms bytes in (bytes, subst Q (sym same) over, said)
 
 pub other_than : (status n : ℕ) → status ≡ n + 1 → status ≢ 0
 other_than status n e = λ zero. omega (arith, e, zero)

@@ -1,4 +1,4 @@
--- The document as it is printed (HTML, Serializing HTML fragments, in part).
+-- The document as it is printed (HTML, Serializing HTML fragments, in part: attributes, comments, void elements and raw text aren't built yet).
 use Rattle.std.specs.Prelude.{ℕ, List, [], ◌∷◌, ◌++◌, codes, nat_eq, if◌then◌else◌, encode_utf8_all}
 use Rattle.std.specs.List.{flat_map}
 use Prim.Native.Nat.{zero, suc}

@@ -1,4 +1,4 @@
--- The report's bytes, in the form of this project's own.
+-- The report's bytes, in the form of this project's own, as far as they can come: one userscript that starts, logs and leaves as done.
 use Rattle.std.specs.Prelude.{◌+◌, ℕ, Bool, List, [], ◌∷◌, ◌++◌, codes, nat_eq, if◌then◌else◌, encode_utf8_all, Option, Some, None}
 use Rattle.std.specs.List.{flat_map}
 use Rattle.std.specs.Fmt.{decimal}

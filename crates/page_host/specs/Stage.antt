@@ -1,4 +1,5 @@
--- The stage after a journal: the document's nodes, the events and the ready state, as the marks make them (DOM, Nodes and Events).
+-- The stage after a journal: the document's nodes, the events and the readiness, as the marks make them (DOM, Nodes and Events, in part:
+-- attributes, listeners, the flags of a walk, timers and stores aren't built yet, and no request that would be refused comes).
 use Rattle.std.specs.Prelude.{ℕ, Bool, true, false, not, List, [], ◌∷◌, ◌++◌, map, filter, nat_eq, slice_get, unwrap_or, if◌then◌else◌}
 use Rattle.std.specs.List.{flat_map}
 use Prim.Native.Nat.{zero, suc}
@@ -116,7 +117,7 @@ stage_from s (mark ∷ marks) = stage_from (after s mark) marks
 abbrev pub stage_of : List Mark → Stage
 stage_of marks = stage_from start marks
 
--- a node is at most 256 steps below the root, so this many levels are all
+-- no node may be over 256 steps below the root, so this many levels are all
 abbrev pub LEVELS : ℕ
 LEVELS = 257
 

@@ -1,9 +1,8 @@
 -- The true answer to each request, and journals whose answers are all true.
-use Rattle.std.specs.Prelude.{◌≡◌, ◌&&◌, ◌||◌, ℕ, Bool, true, false, List, [], ◌∷◌, ◌++◌, codes, nat_eq, if◌then◌else◌}
+use Rattle.std.specs.Prelude.{◌≡◌, ◌&&◌, ◌||◌, ℕ, Bool, true, false, List, [], ◌∷◌, ◌++◌, codes, nat_eq, if◌then◌else◌, Option, Some, None}
 use Rattle.std.specs.Str.{bytes_eq}
 use Rattle.std.specs.List.{flat_map}
 use Rattle.door.specs.declared.values.Actor.{Actor}
-use Rattle.door.specs.declared.values.Kind.TheVariants.{Document}
 use Rattle.door.specs.declared.values.Thing.{Thing}
 use Rattle.door.specs.declared.values.Value.{Value}
 use Rattle.door.specs.declared.values.Value.TheVariants.{Thing as ThingValue, Str, Undefined}
@@ -12,9 +11,10 @@ use Rattle.door.specs.declared.members.Member.TheVariants.{WindowDocument, Docum
 use Rattle.door.specs.declared.requests.Request.{Request}
 use Rattle.door.specs.declared.requests.Request.TheVariants.{Native}
 use Rattle.door.specs.declared.requests.Answer.{Answer}
-use Rattle.door.specs.declared.requests.Answer.TheVariants.{Value as ValueAnswer, Absent}
+use Rattle.door.specs.declared.requests.Answer.TheVariants.{Value as ValueAnswer}
 use Rattle.door.specs.declared.marks.Mark.{Mark}
-use Rattle.door.specs.declared.marks.Mark.TheVariants.{Ask, Serve, Served}
+use Rattle.door.specs.declared.marks.Mark.TheVariants.{Ask, Dispatch, Back, Serve, Served}
+use Rattle.page_host.specs.Things.{the_document, the_host}
 use Rattle.page_host.specs.Stage.{Stage, Form, Tagged, Written, LEVELS, node_at, in_order, stage_of}
 
 -- ASCII white space (Infra, ASCII whitespace)
@@ -50,21 +50,23 @@ title_among s (n ∷ ns) = if is_tagged (codes "title") (node_at s n).form then 
 abbrev pub title_of : Stage → List ℕ
 title_of s = collapsed false false (title_among s (in_order LEVELS s 0))
 
--- the answer to a request for a member; those that aren't here aren't built yet
-abbrev pub answer_of : Stage → Actor → Member → Thing → List Value → Answer
-answer_of s i WindowDocument thing arguments = ValueAnswer (ThingValue (record { kind = Document; number = 0 }))
-answer_of s i DocumentTitle thing arguments = ValueAnswer (Str (title_of s))
-answer_of s i GmLog thing arguments = ValueAnswer Undefined
-answer_of s i member thing arguments = Absent
+-- the answer to a request for a member; the members that aren't built yet have none
+abbrev pub answer_of : Stage → Actor → Member → Thing → List Value → Option Answer
+answer_of s i WindowDocument thing arguments = Some (ValueAnswer (ThingValue the_document))
+answer_of s i DocumentTitle thing arguments = Some (ValueAnswer (Str (title_of s)))
+answer_of s i GmLog thing arguments = Some (ValueAnswer Undefined)
+answer_of s i member thing arguments = None
 
 -- the answer to a request is the true one; no request of another form comes yet
 abbrev pub IsTrueAnswer : List Mark → Actor → Request → Answer → Type 0
-IsTrueAnswer before i (Native member thing arguments) given = given ≡ answer_of (stage_of before) i member thing arguments
+IsTrueAnswer before i (Native member thing arguments) given = Some given ≡ answer_of (stage_of before) i member thing arguments
 IsTrueAnswer before i request given = ⊥
 
--- what a mark says is true after the marks before it; nothing is served yet
+-- what a mark says is true after the marks before it; only the host dispatches yet, and nothing is served
 abbrev pub IsTrueAfter : List Mark → Mark → Type 0
 IsTrueAfter before (Ask i request given) = IsTrueAnswer before i request given
+IsTrueAfter before (Dispatch i event target) = i ≡ the_host
+IsTrueAfter before (Back i given) = i ≡ the_host
 IsTrueAfter before (Serve i owner value operation) = ⊥
 IsTrueAfter before (Served i given) = ⊥
 IsTrueAfter before mark = Unit {0}
@@ -74,6 +76,6 @@ abbrev pub IsGenuineAfter : List Mark → List Mark → Type 0
 IsGenuineAfter before [] = Unit {0}
 IsGenuineAfter before (mark ∷ marks) = IsTrueAfter before mark × IsGenuineAfter (before ++ mark ∷ []) marks
 
--- every answer of the journal is the true one
+-- every answer to a request of the journal is the true one
 abbrev pub IsGenuine : List Mark → Type 0
 IsGenuine marks = IsGenuineAfter [] marks

@@ -16,7 +16,7 @@ use Rattle.door.specs.declared.marks.Mark.TheVariants.{Turn, Build, Enter, Ask, 
 use Rattle.page_host.specs.Stage.{stage_of}
 use Rattle.page_host.specs.Things.{the_document, the_host, the_window}
 
--- what a run is given: the requests that build each piece of the page, and the texts of the userscripts that start, in order
+-- what a run is given: the requests that build each piece of the page, and the texts of the userscripts, which all start, in byte order of their names
 pub record Input : Type 0 where
   pub pieces : List (List Request)
   pub starts : List (List ℕ)
@@ -26,7 +26,7 @@ abbrev pub numbered : {A : Type 0} → (ℕ → Task) → ℕ → List A → Lis
 numbered task n [] = []
 numbered task n (x ∷ xs) = task n ∷ numbered task (n + 1) xs
 
--- the tasks in order: the pieces, DOMContentLoaded, the userscripts, load
+-- the tasks in order: the pieces, DOMContentLoaded, the userscripts, which all start at document-end, load
 abbrev pub tasks_of : Input → List Task
 tasks_of input = numbered Piece 0 input.pieces ++ (Ready ∷ (numbered Start 0 input.starts ++ Load ∷ []))
 

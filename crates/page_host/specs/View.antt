@@ -95,7 +95,7 @@ abbrev pub meets_entry : Met → Entry → Met
 meets_entry met (Listener place event current) = meets_thing (meets_thing met event) current
 meets_entry met entry = met
 
--- the thing by its place in the order of meeting
+-- the thing by its place in the order of meeting; one that isn't met has the number of those that are
 abbrev pub named : Met → Thing → Thing
 named met thing = record { kind = thing.kind; number = position_or_len (is_thing thing) met.things }
 

@@ -8,7 +8,7 @@ ghost use Rattle.page_host.specs.Names.{IsOnlyScript, is_events, is_userscript};
 ghost use Rattle.page_host.specs.Page.{IsPage};
 ghost use Rattle.page_host.specs.Played.{journal_of};
 ghost use Rattle.page_host.specs.Report.{report_of};
-ghost use Rattle.page_host.specs.Run.{IsRight};
+ghost use Rattle.page_host.specs.Run.{IsRightOver};
 ghost use Rattle.page_host.specs.Steps.{Fits, IsRefused};
 ghost use Rattle.page_host.specs.Userscript.{IsUserscript};
 ghost use Rattle.page_host.specs.Words.{AreRead, IsRunCommand};
@@ -38,7 +38,7 @@ pub struct Ended {
     pub status: u8,
     /// `None` exactly at status 0.
     pub fault: Option<HostFault>,
-    /// Whole where the report was begun, else empty.
+    /// Whole where something was written, else whole or empty.
     pub journal: Journal,
 }
 
@@ -47,8 +47,8 @@ pub struct Ended {
 /// The status is 0, or that of the fault: 2, 3 and 14 are the first refusal of words and files in the
 /// order of the steps, where the folder tells its files; 6 comes only where a call on the folder
 /// failed, 8 only where a write failed, and 11 for want of memory. At 0 the sink has the report of the
-/// journal, at 8 a prefix of it, at 11 nothing or a prefix, and else it is as before. Folder and keeper
-/// are as before.
+/// journal, at 8 a prefix of it, at 11 nothing or a prefix, and else it is as before. The
+/// folder's files and the keeper are as before.
 pub fn host_run<F: Folder, K: Keeper, S: Sink>(
     alloc: Global,
     words: &[String],
@@ -69,9 +69,9 @@ pub fn host_run<F: Folder, K: Keeper, S: Sink>(
     ensures write { result.status ≡ 8 → Rose (S.faults out.old) (S.faults out.new) }
 
     // What is written.
-    ensures right { result.status ≡ 0 → IfSome (F.files folder.old) (λ files. (bytes : List ℕ) × IsRight (map string_bytes words.now) files result.journal.marks bytes × Appends (S.written out.old) (S.written out.new) bytes) }
-    ensures cut { result.status ≡ 8 → IfSome (F.files folder.old) (λ files. (bytes : List ℕ) × IsRight (map string_bytes words.now) files result.journal.marks bytes × AppendsPrefix (S.written out.old) (S.written out.new) bytes) }
-    ensures short { result.status ≡ 11 → ((out.new ≡ out.old) × (result.journal.marks ≡ [])) ⊎ IfSome (F.files folder.old) (λ files. (bytes : List ℕ) × IsRight (map string_bytes words.now) files result.journal.marks bytes × AppendsPrefix (S.written out.old) (S.written out.new) bytes) }
+    ensures right { result.status ≡ 0 → (bytes : List ℕ) × IsRightOver (map string_bytes words.now) (F.files folder.old) result.journal.marks bytes × Appends (S.written out.old) (S.written out.new) bytes }
+    ensures cut { result.status ≡ 8 → ((bytes : List ℕ) × IsRightOver (map string_bytes words.now) (F.files folder.old) result.journal.marks bytes × AppendsPrefix (S.written out.old) (S.written out.new) bytes) }
+    ensures short { result.status ≡ 11 → ((out.new ≡ out.old) × (result.journal.marks ≡ [])) ⊎ ((bytes : List ℕ) × IsRightOver (map string_bytes words.now) (F.files folder.old) result.journal.marks bytes × AppendsPrefix (S.written out.old) (S.written out.new) bytes) }
     ensures unwritten { result.status ≢ 0 → result.status ≢ 8 → result.status ≢ 11 → out.new ≡ out.old }
     ensures files { F.files folder.new ≡ F.files folder.old }
     ensures kept { keeper.new ≡ keeper.old }
@@ -121,7 +121,7 @@ fn deliver<S: Sink>(made: Made, out: &mut S) -> Ended
 
 /// Reads all that a run is given, plays it, and makes its report.
 fn prepare<F: Folder>(alloc: Global, words: &[String], folder: &mut F) -> Result<Made, HostFault>
-    ensures right { IfOk result (λ made. IfSome (F.files folder.old) (λ files. IsRight (map string_bytes words.now) files made.journal.marks made.report.items)) }
+    ensures right { IfOk result (λ made. IsRightOver (map string_bytes words.now) (F.files folder.old) made.journal.marks made.report.items) }
     ensures usage { IsErrOf result HostFault.Usage ↔ ¬ AreRead (map string_bytes words.now) }
     ensures refused { IfErr result (λ fault. IsRefusal fault → IfSome (F.files folder.old) (λ files. IsRefused (map string_bytes words.now) files fault)) }
     ensures same { F.files folder.new ≡ F.files folder.old }

@@ -77,11 +77,22 @@ fn run_of<R: Abort + AllocGlobal>(rt: &R, run: Run) -> Result<Given, Fail> {
     let alloc = rt.alloc();
     let words = words(alloc, run)?;
     let files = files(alloc, run)?;
+    run_over(rt, &words, files, run.failing_call, run.failing_write)
+}
+
+fn run_over<R: Abort + AllocGlobal>(
+    rt: &R,
+    words: &[String],
+    files: Vec<(String, Vec<u8>)>,
+    failing_call: u32,
+    failing_write: u32,
+) -> Result<Given, Fail> {
+    let alloc = rt.alloc();
     assert!(rt; is_folder(&files));
-    let mut folder = MemoryFolder::new(files, vec![in alloc; run.failing_call]?);
+    let mut folder = MemoryFolder::new(files, vec![in alloc; failing_call]?);
     let mut keeper = MemoryKeeper::new(alloc, None, Vec::new(alloc));
-    let mut sink = MemorySink::new(alloc, 10, vec![in alloc; run.failing_write]?);
-    let ended = host_run(alloc, words.as_slice(), &mut folder, &mut keeper, &mut sink);
+    let mut sink = MemorySink::new(alloc, 10, vec![in alloc; failing_write]?);
+    let ended = host_run(alloc, words, &mut folder, &mut keeper, &mut sink);
     let written = Vec::from_slice(alloc, sink.written())?;
     Ok(Given { ended, written })
 }
@@ -159,6 +170,58 @@ fn faults_of_the_outside_are_told(rt: HostRuntime) -> Result<(), Fail> {
     assert_eq!(rt; given.ended.status, 8);
     assert_eq!(rt; given.ended.journal.len(), 25);
     assert_eq!(rt; given.written.as_slice(), b"pagehost 1".as_slice());
+    Ok(())
+}
+
+/// So many letters between a front and an end.
+fn letters(alloc: Global, front: &str, count: usize, end: &str) -> Result<String, AllocError> {
+    let mut text = String::from_str(alloc, front)?;
+    for _ in 0..count {
+        text.push('x')?;
+    }
+    text.push_str(end)?;
+    Ok(text)
+}
+
+/// A run whose host, title and quoted text have so many letters ends with this status.
+fn sized<R: Abort + AllocGlobal>(
+    rt: &R,
+    host: usize,
+    title: usize,
+    quoted: usize,
+    status: u8,
+) -> Result<(), Fail> {
+    let alloc = rt.alloc();
+    let page = letters(
+        alloc,
+        "<html><head><title>",
+        title,
+        "</title></head><body></body></html>",
+    )?;
+    let lines = letters(alloc, "GM_log(\"", quoted, "\");\n")?;
+    let mut words = Vec::new(alloc);
+    words.push(String::from_str(alloc, "run")?)?;
+    words.push(letters(alloc, "http://", host, "/")?)?;
+    let mut files = Vec::new(alloc);
+    files.push(file(alloc, "a.user.js", BLOCK, lines.as_str())?)?;
+    files.push(file(alloc, "page.html", page.as_str(), "")?)?;
+    let given = run_over(rt, &words, files, 0, 0)?;
+    assert_eq!(rt; given.ended.status, status);
+    Ok(())
+}
+
+#[test]
+fn sizes_are_bytes_of_the_whole(rt: HostRuntime) -> Result<(), Fail> {
+    for (host, title, quoted, status) in [
+        (245, 1, 1, 0),
+        (246, 1, 1, 14),
+        (1, 202, 1, 0),
+        (1, 203, 1, 14),
+        (1, 1, 947, 0),
+        (1, 1, 948, 14),
+    ] {
+        sized(&rt, host, title, quoted, status)?;
+    }
     Ok(())
 }
 
