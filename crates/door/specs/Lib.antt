@@ -1,3 +1,5 @@
+pub mod Changes
+pub mod Forest
 pub mod Looks
 pub mod Record
 pub mod SameMarks

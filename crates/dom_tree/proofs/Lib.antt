@@ -1,0 +1,13 @@
+pub mod Children
+pub mod Closing
+pub mod CountLemmas
+pub mod Gathered
+pub mod LevelLemmas
+pub mod Lists
+pub mod Moves
+pub mod NodeLemmas
+pub mod Parents
+pub mod Replaced
+pub mod Rows
+pub mod Same
+pub mod Trees

@@ -1,0 +1,7 @@
+-- Nodes by their names.
+use Rattle.std.specs.Prelude.{ℕ, Option, option_map}
+use Rattle.dom_tree.specs.declared.form.NodeId.{NodeId}
+
+-- the number of the node that is named, if one is
+abbrev pub number_of : Option NodeId → Option ℕ
+number_of id = option_map (λ (i : NodeId). i.0) id

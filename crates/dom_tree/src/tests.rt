@@ -1,0 +1,215 @@
+use super::*;
+use base_text::Text;
+use door::Actor;
+use std::alloc::Global;
+use std::process::Abort;
+use std::test::Fail;
+
+const HOST: Actor = Actor(0);
+
+const PAGE: Actor = Actor(1);
+
+const DOCUMENT: NodeId = NodeId(0);
+
+fn text(alloc: Global, s: &str) -> Result<Text, Fail> {
+    Ok(Text::of(alloc, s)?)
+}
+
+fn make(
+    rt: &impl Abort,
+    tree: &mut Tree,
+    maker: Actor,
+    form: NodeForm,
+) -> Result<NodeId, TreeFault> {
+    assert!(rt; tree.count() < 1_000_000);
+    tree.create(maker, form)
+}
+
+fn put(
+    rt: &impl Abort,
+    tree: &mut Tree,
+    parent: u32,
+    node: u32,
+    before: Option<NodeId>,
+) -> Result<(), TreeFault> {
+    assert!(rt; parent < tree.count());
+    assert!(rt; node < tree.count());
+    tree.insert(NodeId(parent), NodeId(node), before)
+}
+
+fn write(rt: &impl Abort, tree: &mut Tree, node: u32, t: &Text) -> Result<(), TreeFault> {
+    assert!(rt; 0 < node && node < tree.count());
+    assert!(rt; tree.count() < 1_000_000);
+    tree.set_text(PAGE, NodeId(node), t)
+}
+
+fn set(rt: &impl Abort, tree: &mut Tree, name: &Text, value: &Text) -> Result<(), Fail> {
+    assert!(rt; 2 < tree.count());
+    assert!(rt; matches!(tree.form(NodeId(2)), Some(NodeForm::Element(_))));
+    tree.set_attr(NodeId(2), name, value)?;
+    Ok(())
+}
+
+fn unset(rt: &impl Abort, tree: &mut Tree, name: &Text) -> bool {
+    assert!(rt; 2 < tree.count());
+    assert!(rt; matches!(tree.form(NodeId(2)), Some(NodeForm::Element(_))));
+    tree.drop_attr(NodeId(2), name)
+}
+
+fn has(rt: &impl Abort, tree: &Tree, at: u32, name: &Text, value: &Text) -> bool {
+    assert!(rt; 2 < tree.count());
+    assert!(rt; matches!(tree.form(NodeId(2)), Some(NodeForm::Element(_))));
+    tree.attr_at(NodeId(2), at) == Some((name, value)) && tree.attr(NodeId(2), name) == Some(value)
+}
+
+fn reads(rt: &impl Abort, tree: &Tree, node: u32, t: &str, under: usize) -> Result<bool, Fail> {
+    assert!(rt; node < tree.count());
+    let text = tree.text_of(NodeId(node))?;
+    Ok(text.as_str() == t && tree.children(NodeId(node)).len() == under)
+}
+
+/// A document with the element html, in it the elements a and b with a text each, and a comment aside.
+fn grown(rt: &impl Abort, alloc: Global) -> Result<Tree, Fail> {
+    let mut tree = Tree::new(alloc)?;
+    make(rt, &mut tree, PAGE, NodeForm::Element(text(alloc, "html")?))?;
+    make(rt, &mut tree, PAGE, NodeForm::Element(text(alloc, "a")?))?;
+    make(rt, &mut tree, PAGE, NodeForm::Element(text(alloc, "b")?))?;
+    make(rt, &mut tree, PAGE, NodeForm::Str(text(alloc, "one ")?))?;
+    make(rt, &mut tree, PAGE, NodeForm::Str(text(alloc, "two")?))?;
+    make(
+        rt,
+        &mut tree,
+        PAGE,
+        NodeForm::Comment(text(alloc, "aside")?),
+    )?;
+    for (parent, child) in [(0, 1), (1, 2), (1, 3), (2, 4), (3, 5)] {
+        put(rt, &mut tree, parent, child, None)?;
+    }
+    Ok(tree)
+}
+
+#[test]
+fn insertions_are_refused_in_order(rt: HostRuntime) -> Result<(), Fail> {
+    let alloc = rt.alloc();
+    let mut tree = grown(&rt, alloc)?;
+    // parent, node, before, answer
+    let cases = [
+        (4, 6, None, Err(TreeFault::Hierarchy)),
+        (6, 4, None, Err(TreeFault::Hierarchy)),
+        (2, 1, None, Err(TreeFault::Hierarchy)),
+        (1, 1, None, Err(TreeFault::Hierarchy)),
+        (4, 6, Some(5), Err(TreeFault::Hierarchy)),
+        (1, 6, Some(4), Err(TreeFault::NotFound)),
+        (0, 4, Some(2), Err(TreeFault::NotFound)),
+        (0, 4, None, Err(TreeFault::Hierarchy)),
+        (0, 1, None, Err(TreeFault::Hierarchy)),
+        (0, 2, None, Err(TreeFault::Hierarchy)),
+        (0, 6, Some(1), Ok(())),
+        (1, 3, Some(2), Ok(())),
+        (1, 3, Some(3), Ok(())),
+    ];
+    for (parent, node, before, want) in cases {
+        let before = before.map(|n| NodeId(n));
+        assert_eq!(rt; put(&rt, &mut tree, parent, node, before), want);
+    }
+    assert!(rt; tree.count() == 7);
+    assert!(rt; tree.children(DOCUMENT) == &[6, 1][..]);
+    assert!(rt; tree.children(NodeId(1)) == &[3, 2][..]);
+    assert_eq!(rt; tree.remove(NodeId(2), NodeId(5)), Err(TreeFault::NotFound));
+    assert_eq!(rt; tree.remove(NodeId(3), NodeId(5)), Ok(()));
+    assert_eq!(rt; tree.parent(NodeId(5)), None);
+    Ok(())
+}
+
+#[test]
+fn nodes_are_asked(rt: HostRuntime) -> Result<(), Fail> {
+    let tree = grown(&rt, rt.alloc())?;
+    assert!(rt; tree.count() == 7);
+    assert_eq!(rt; tree.parent(NodeId(4)), Some(NodeId(2)));
+    assert_eq!(rt; tree.first_child(NodeId(1)), Some(NodeId(2)));
+    assert_eq!(rt; tree.next_sibling(NodeId(2)), Some(NodeId(3)));
+    assert_eq!(rt; tree.next_sibling(NodeId(3)), None);
+    assert!(rt; tree.form(DOCUMENT).is_none());
+    for (node, want) in [
+        (0, "one two"),
+        (1, "one two"),
+        (3, "two"),
+        (5, "two"),
+        (6, "aside"),
+    ] {
+        assert!(rt; tree.text_of(NodeId(node))?.as_str() == want);
+    }
+    Ok(())
+}
+
+#[test]
+fn attributes_keep_their_places(rt: HostRuntime) -> Result<(), Fail> {
+    let alloc = rt.alloc();
+    let mut tree = grown(&rt, alloc)?;
+    let id = text(alloc, "id")?;
+    let class = text(alloc, "class")?;
+    let x = text(alloc, "x")?;
+    let y = text(alloc, "y")?;
+    for (name, value) in [(&id, &x), (&class, &x), (&id, &y)] {
+        set(&rt, &mut tree, name, value)?;
+    }
+    assert!(rt; has(&rt, &tree, 0, &id, &y));
+    assert!(rt; has(&rt, &tree, 1, &class, &x));
+    assert!(rt; unset(&rt, &mut tree, &id));
+    assert!(rt; !unset(&rt, &mut tree, &id));
+    assert!(rt; has(&rt, &tree, 0, &class, &x));
+    Ok(())
+}
+
+#[test]
+fn texts_are_replaced(rt: HostRuntime) -> Result<(), Fail> {
+    let alloc = rt.alloc();
+    let mut tree = grown(&rt, alloc)?;
+    for (node, t, under) in [(6, "y", 0), (1, "x", 1), (1, "", 0), (1, "z", 1)] {
+        write(&rt, &mut tree, node, &text(alloc, t)?)?;
+        assert!(rt; reads(&rt, &tree, node, t, under)?);
+    }
+    assert_eq!(rt; tree.count(), 9);
+    Ok(())
+}
+
+#[test]
+fn limits_are_met(rt: HostRuntime) -> Result<(), Fail> {
+    let alloc = rt.alloc();
+    let mut tree = Tree::new(alloc)?;
+    let tag = text(alloc, "p")?;
+    let mut last = DOCUMENT;
+    for step in 1..=257 {
+        let node = make(&rt, &mut tree, PAGE, NodeForm::Element(tag.share()?))?;
+        let want = if step <= 256 {
+            Ok(())
+        } else {
+            Err(TreeFault::TooDeep)
+        };
+        assert_eq!(rt; put(&rt, &mut tree, last.0, node.0, None), want);
+        if step <= 256 {
+            last = node;
+        }
+    }
+    assert_eq!(rt;
+        write(&rt, &mut tree, last.0, &tag),
+        Err(TreeFault::TooDeep)
+    );
+    for _ in 0..99_999 {
+        make(&rt, &mut tree, HOST, NodeForm::Element(tag.share()?))?;
+    }
+    assert_eq!(rt;
+        make(&rt, &mut tree, HOST, NodeForm::Element(tag.share()?)),
+        Err(TreeFault::NodeLimit)
+    );
+    assert!(rt; make(&rt, &mut tree, PAGE, NodeForm::Element(tag.share()?)).is_ok());
+    for _ in 258..100_000 {
+        make(&rt, &mut tree, PAGE, NodeForm::Element(tag.share()?))?;
+    }
+    assert_eq!(rt;
+        make(&rt, &mut tree, PAGE, NodeForm::Element(tag.share()?)),
+        Err(TreeFault::NodeLimit)
+    );
+    assert_eq!(rt; write(&rt, &mut tree, 1, &tag), Err(TreeFault::NodeLimit));
+    Ok(())
+}

@@ -1,0 +1,115 @@
+//! The tokens of a whole text.
+
+ghost use Rattle.std.specs.Prelude.{◌≡◌, ◌≤◌, ◌+◌, List, [], ℕ, length, false, IfOk};
+ghost use Rattle.std.specs.Str.{chars};
+ghost use Rattle.base_text.specs.Scalars.{utf8_len};
+ghost use Rattle.base_text.specs.declared.text.TheConstants.{SOURCE_LIMIT};
+ghost use Rattle.js_lexer.specs.Answers.{Tells, IfFault, OkOrMemory, FaultOrMemory};
+ghost use Rattle.js_lexer.specs.Pieces as read;
+ghost use Rattle.js_lexer.specs.Runs.{before};
+ghost use Rattle.js_syntax.specs.TokenFaults.{IsFault};
+ghost use Rattle.js_syntax.specs.Tokens.{AreTokens, token_at};
+ghost use Rattle.js_syntax.specs.declared.token.TokenKind.TheVariants as kinds;
+ghost use Rattle.js_syntax.specs.declared.token.Token.{Token};
+ghost use Rattle.js_syntax.specs.declared.token_fault.LexKind.{LexKind};
+
+use crate::pieces::{Flaw, Front, front_of};
+use crate::scalars::{before, scalars, width};
+use base_text::{Mem, NoMemory, OrMemory, Text, TextFault};
+use js_syntax::{LexFault, Token, TokenKind, Tokens};
+use std::alloc::Global;
+
+/// The end of a text.
+fn end_at(alloc: Global, at: u32, line_before: bool) -> Mem<Token>
+    ensures { IfOk result (λ t. t ≡ token_at at line_before kinds.End [] []) }
+{
+    match Text::of(alloc, "") {
+        Ok(text) => Ok(Token {
+            kind: TokenKind::End,
+            text,
+            from: at,
+            to: at,
+            line_before,
+        }),
+        Err(TextFault::TooLong) => unreachable!(),
+        Err(TextFault::NoMemory) => Err(NoMemory),
+    }
+}
+
+/// The place behind what stands before the rest, where what is left begins at `at`.
+fn place_after(at: u32, left: &[char], rest: &[char]) -> u32
+    requires part { length rest.now ≤ length left.now }
+    requires limit { at + utf8_len left.now ≤ SOURCE_LIMIT }
+    ensures { result ≡ at + utf8_len (before left.now rest.now) }
+{
+    at + width(before(left, rest)) as u32
+}
+
+/// The fault in the whole text, where what is left begins at `at`.
+fn fault_at(at: u32, flaw: Flaw) -> LexFault
+    requires { at + flaw.on ≤ SOURCE_LIMIT }
+    ensures { result ≡ record { at = at + flaw.on; kind = flaw.kind } }
+{
+    LexFault {
+        at: at + flaw.on as u32,
+        kind: flaw.kind,
+    }
+}
+
+/// The tokens of these scalars.
+fn read(alloc: Global, text: &[char]) -> Result<Tokens, OrMemory<LexFault>>
+    requires { utf8_len text.now ≤ SOURCE_LIMIT }
+    ensures { Tells (read.read_from (length text.now) 0 false text.now) result }
+{
+    let mut tokens = Tokens::new(alloc);
+    let mut at = 0;
+    let mut line_before = false;
+    let mut left = text;
+    while !left.is_empty() {
+        match front_of(alloc, left) {
+            Ok(Front::Gap { breaks, rest }) => {
+                at = place_after(at, left, rest);
+                line_before |= breaks;
+                left = rest;
+            }
+            Ok(Front::Word { kind, text, rest }) => {
+                let to = place_after(at, left, rest);
+                tokens.push(Token {
+                    kind,
+                    text,
+                    from: at,
+                    to,
+                    line_before,
+                })?;
+                at = to;
+                line_before = false;
+                left = rest;
+            }
+            Err(OrMemory::Fault(flaw)) => return Err(OrMemory::Fault(fault_at(at, flaw))),
+            Err(OrMemory::NoMemory) => return Err(OrMemory::NoMemory),
+        }
+    }
+    tokens.push(end_at(alloc, at, line_before)?)?;
+    Ok(tokens)
+}
+
+/// The tokens of a text of at most 1,048,576 bytes, whose last one is the end (ECMAScript, 12 Lexical
+/// Grammar).
+///
+/// Places count bytes from the text's beginning. A `Fault` comes exactly where the text has no tokens.
+/// It is the first one: the faults behind a token aren't looked at, of those at one token the earliest
+/// place comes first, and at one place the order of `LexKind`.
+pub fn lex(alloc: Global, s: &str) -> Result<Tokens, OrMemory<LexFault>>
+    requires { length s.now ≤ SOURCE_LIMIT }
+    // What is read are tokens of the text.
+    ensures ok { IfOk result (λ tokens. AreTokens (chars s.now) tokens) }
+    // What are tokens of the text is read.
+    ensures only { (tokens : List Token) → AreTokens (chars s.now) tokens → OkOrMemory result tokens }
+    // A refusal is the first fault of the text.
+    ensures fault { IfFault result (λ f. IsFault (chars s.now) f.at f.kind) }
+    // The first fault of the text is answered.
+    ensures first { (at : ℕ) (kind : LexKind) → IsFault (chars s.now) at kind → FaultOrMemory result at kind }
+{
+    let text = scalars(alloc, s)?;
+    read(alloc, &text)
+}

@@ -1,0 +1,11 @@
+pub mod formers
+pub mod Symbols
+pub mod Spelling
+pub mod Words
+pub mod Grammar
+pub mod Scripts
+pub mod TokenScalars
+pub mod TokenTexts
+pub mod TokenSpelling
+pub mod Tokens
+pub mod TokenFaults

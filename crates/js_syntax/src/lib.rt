@@ -1,0 +1,19 @@
+//! The tokens and the syntax trees of a script, and the grammars that say which of them a text spells.
+#![tactic(auto)]
+
+mod parse_fault;
+mod shared;
+mod symbol;
+mod token;
+mod token_fault;
+mod tree;
+
+pub use parse_fault::{ParseFault, ParseKind};
+pub use shared::Shared;
+pub use symbol::{Symbol, number_of};
+pub use token::{Token, TokenKind, Tokens};
+pub use token_fault::{LexFault, LexKind};
+pub use tree::{
+    Catch, Code, Declaration, Expr, ForStart, ForTarget, Function, Property, Script, Stmt, Stmts,
+    UpdateOp,
+};

@@ -1,0 +1,12 @@
+pub mod Bytes
+pub mod Grammar
+pub mod Nodes
+pub mod Outcomes
+pub mod Page
+pub mod Pieces
+pub mod Reads
+pub mod Scans
+pub mod Steps
+pub mod Tags
+pub mod Values
+pub mod Views

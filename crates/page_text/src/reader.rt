@@ -1,0 +1,218 @@
+//! Reading a page piece by piece.
+
+ghost use Rattle.std.specs.Prelude.{◌≡◌, ◌≤◌, ◌-◌, ℕ, List, None, Some, Ok, Err, length, map, IfOk, IfErr, MatchOption};
+ghost use Rattle.page_text.specs.Page as spec;
+ghost use Rattle.page_text.specs.Reads as reads;
+ghost use Rattle.page_text.specs.Steps as steps;
+ghost use Rattle.page_text.specs.Views.{opens_of};
+
+use crate::faults::{Failed, PageFault, PageKind};
+use crate::pieces::{Piece, read_piece};
+use crate::state::{Open, State};
+use crate::values::after;
+use crate::writes::Requests;
+use base_text::{Mem, OrMemory, Text};
+use door::Texts;
+use std::alloc::Global;
+use std::marker::Model;
+
+/// The most bytes that a page has.
+const PAGE_LIMIT: usize = 4_194_304;
+
+/// Whether a reading is over, and how.
+#[derive(Clone, Copy)]
+pub(crate) enum Over {
+    No,
+    Ended,
+    Refused(PageFault),
+}
+
+/// A reading of a page, which contracts see as its progress.
+#[derive(Drop)]
+pub struct PageReader<'a> {
+    size: u32,
+    rest: &'a str,
+    open_elements: Option<Vec<Open<'a>>>,
+    next: u32,
+    begun: bool,
+    over: Over,
+}
+
+impl<'a> Model for PageReader<'a> {
+    ghost use Rattle.page_text.specs.Page.{Progress};
+    ghost use Rattle.page_text.specs.Views.{opens_of, progress_of};
+
+    ghost Value = { Progress };
+
+    ghost view = { λ r. progress_of r.size r.rest.now (opens_of r.open_elements) r.next r.begun r.over };
+}
+
+/// The page's text, or the fault of its length or its bytes.
+fn text_of_page(bytes: &[u8]) -> Result<&str, PageFault>
+    ensures ok { IfOk result (λ text. (text.now ≡ bytes.now) × (spec.checked_page bytes.now ≡ Over.No)) }
+    ensures len { IfOk result (λ text. length bytes.now ≤ 4194304) }
+    ensures err { IfErr result (λ f. spec.checked_page bytes.now ≡ Over.Refused f) }
+{
+    if bytes.len() > PAGE_LIMIT {
+        return Err(PageFault {
+            at: PAGE_LIMIT as u32,
+            kind: PageKind::TooLong,
+        });
+    }
+    match str::from_utf8(bytes) {
+        Ok(text) => Ok(text),
+        Err(e) => Err(PageFault {
+            at: e.valid_up_to() as u32,
+            kind: PageKind::NotUtf8,
+        }),
+    }
+}
+
+/// The text without its byte order mark.
+fn without_mark(text: &str) -> &str
+    ensures { result.now ≡ spec.without_mark text.now }
+{
+    match after(text, "\u{feff}") {
+        Some(rest) => rest,
+        None => text,
+    }
+}
+
+fn copied<'a>(alloc: Global, open_elements: &Option<Vec<Open<'a>>>) -> Mem<Vec<Open<'a>>>
+    ensures { IfOk result (λ v. map steps.open_of v.items ≡ opens_of open_elements.now) }
+{
+    match open_elements {
+        None => Ok(Vec::new(alloc)),
+        Some(v) => Ok(v.as_slice().to_vec(alloc)?),
+    }
+}
+
+fn over_of(script: &Option<Text>) -> Over
+    ensures { result ≡ spec.over_of script.now }
+{
+    match script {
+        None => Over::Ended,
+        Some(_) => Over::No,
+    }
+}
+
+fn fault_at(size: u32, rest: usize, kind: PageKind) -> PageFault
+    ensures { result ≡ spec.fault_at (size - rest) kind }
+{
+    PageFault {
+        at: (size as usize).saturating_sub(rest) as u32,
+        kind,
+    }
+}
+
+impl<'a> PageReader<'a> {
+    /// Before the page of these bytes is read. It takes no memory.
+    pub fn new(bytes: &'a [u8]) -> PageReader<'a>
+        ensures { result ≡ spec.first bytes.now }
+    {
+        match text_of_page(bytes) {
+            Ok(text) => PageReader::before(bytes.len() as u32, without_mark(text), Over::No),
+            Err(fault) => PageReader::before(0, "", Over::Refused(fault)),
+        }
+    }
+
+    fn before(size: u32, rest: &'a str, over: Over) -> PageReader<'a>
+        ensures { result ≡ record { size = size; state = spec.start rest.now; over = over } }
+    {
+        PageReader {
+            size,
+            rest,
+            open_elements: None,
+            next: 1,
+            begun: false,
+            over,
+        }
+    }
+
+    fn state(&self, alloc: Global) -> Mem<State<'a>>
+        ensures { IfOk result (λ s. steps.state_of s ≡ self.now.state) }
+    {
+        Ok(State {
+            rest: self.rest,
+            open_elements: copied(alloc, &self.open_elements)?,
+            next: self.next,
+            begun: self.begun,
+            writes: Requests::new(alloc),
+            external: Texts::new(alloc),
+        })
+    }
+
+    fn keep(&mut self, script: Option<Text>, state: State<'a>) -> Piece
+        ensures piece { result ≡ spec.piece_of script (steps.state_of state.entry) }
+        ensures progress { self.new ≡ spec.behind self.old script (steps.state_of state.entry) }
+    {
+        let State {
+            rest,
+            open_elements,
+            next,
+            begun,
+            writes,
+            external,
+        } = state;
+        self.rest = rest;
+        self.open_elements = Some(open_elements);
+        self.next = next;
+        self.begun = begun;
+        self.over = over_of(&script);
+        Piece {
+            writes,
+            script,
+            external,
+        }
+    }
+
+    fn refuse(&mut self, fault: PageFault)
+        ensures { self.new ≡ record self.old { over = Over.Refused fault } }
+    {
+        self.over = Over::Refused(fault);
+    }
+
+    /// The next piece of the page; none after the last one.
+    ///
+    /// A fault is the page's first; it comes exactly where the bytes are no page, and again
+    /// afterwards. Where no memory was found, the reader is as before.
+    pub fn next_piece(&mut self, alloc: Global) -> Result<Option<Piece>, OrMemory<PageFault>>
+        ensures ok { IfOk result (λ o. spec.Goes self.old.over self.old o self.new) }
+        ensures err { IfErr result (λ e. spec.Refuses self.old e self.new) }
+        ensures only { (pieces : List Piece) → spec.Pieces self.old pieces → reads.AreRead pieces self.new result }
+        ensures read { IfOk result (λ o. (pieces : List Piece) → spec.Pieces self.new pieces → spec.Pieces self.old (reads.with_answer o pieces)) }
+        ensures fault { (f : PageFault) → spec.Faulty self.old f → reads.IsMet f self.new result }
+        ensures faulty { IfOk result (λ o. (f : PageFault) → spec.Faulty self.new f → spec.Faulty self.old f) }
+        ensures met { IfErr result (λ e. reads.IsFault self.old e) }
+    {
+        self.advance(alloc)
+    }
+
+    fn advance(&mut self, alloc: Global) -> Result<Option<Piece>, OrMemory<PageFault>>
+        ensures ok { IfOk result (λ o. spec.Goes self.old.over self.old o self.new) }
+        ensures err { IfErr result (λ e. spec.Refuses self.old e self.new) }
+    {
+        match self.over {
+            Over::Ended => return Ok(None),
+            Over::Refused(fault) => return Err(OrMemory::Fault(fault)),
+            Over::No => {}
+        }
+        let state = self.state(alloc)?;
+        match read_piece(alloc, state) {
+            Ok((script, state)) => Ok(Some(self.keep(script, state))),
+            Err(Failed::Memory) => Err(OrMemory::NoMemory),
+            Err(Failed::Stuck(kind, rest)) => {
+                let fault = fault_at(self.size, rest.len(), kind);
+                self.refuse(fault);
+                Err(OrMemory::Fault(fault))
+            }
+        }
+    }
+}
+
+/// A page has one list of pieces, or one fault, and not both.
+pub fn a_page_has_one_reading()
+    ensures pieces { (bytes : List ℕ) (pieces others : List Piece) → spec.IsPage bytes pieces → spec.IsPage bytes others → pieces ≡ others }
+    ensures fault { (bytes : List ℕ) (f g : PageFault) → spec.IsFaulty bytes f → spec.IsFaulty bytes g → f ≡ g }
+    ensures either { (bytes : List ℕ) (pieces : List Piece) (f : PageFault) → spec.IsPage bytes pieces → spec.IsFaulty bytes f → ⊥ }
+{}

@@ -1,0 +1,9 @@
+pub mod Laws
+pub mod Wider
+pub mod Loops
+pub mod Begin
+pub mod Where
+pub mod Sets
+pub mod Spells
+pub mod Good
+pub mod More
