@@ -1,0 +1,12 @@
+pub mod Sound
+pub mod Collapses
+pub mod Forests
+pub mod Heads
+pub mod Titles
+pub mod Rows
+pub mod Entries
+pub mod Own
+pub mod Building
+pub mod Events
+pub mod Turning
+pub mod Loops

@@ -1,0 +1,11 @@
+use Rattle.std.proofs.Common.{◌≡◌, ◌≤◌, length}
+use Rattle.small_eval.proofs.Loops.{AtStart}
+use Rattle.small_eval.proofs.run.play_starts.Given as goal
+
+abbrev pub invariant-loop-text : goal.invariant-loop-text
+invariant-loop-text l =
+    record {
+      at : AtStart l.scripts l.n l.fn.w l.w;
+      number : l.n ≡ l.text-index;
+      within : l.text-index ≤ length l.scripts;
+    }

@@ -1,0 +1,9 @@
+pub mod Builds
+pub mod Follows
+pub mod Heads
+pub mod Idle
+pub mod Outcomes
+pub mod Pieces
+pub mod Turns
+pub mod Words
+pub mod Worlds

@@ -1,0 +1,106 @@
+//! How a script is entered.
+
+ghost use Rattle.std.specs.Prelude.{◌≡◌, ◌≢◌, ◌≤◌, ◌<◌, ◌+◌, ◌^◌, ◌++◌, codes, List, IfOk, OnOk, length};
+ghost use Rattle.door.specs.declared.marks.Mark.{Mark as AnyMark};
+ghost use Rattle.small_forms.specs.declared.script.Line.{Line as AnyLine};
+ghost use Rattle.solo_model.specs.Closed.{Setups};
+ghost use Rattle.solo_model.specs.Errors.{error_text};
+ghost use Rattle.solo_model.specs.Lawful.{IsEntry};
+ghost use Rattle.solo_model.specs.Meaning.{Reads, outcome_of};
+ghost use Rattle.small_eval.specs.Follows.{Adds, GoesOn};
+ghost use Rattle.small_eval.specs.Heads.{IsHeaded};
+ghost use Rattle.small_eval.specs.Idle.{AreIdle};
+ghost use Rattle.small_eval.specs.Outcomes.{done_of};
+ghost use Rattle.small_eval.specs.Worlds.{IsSound};
+
+use crate::evaluate::lines;
+use crate::exit::Exit;
+use crate::world::{World, note};
+use base_text::{Mem, NoMemory, Text, TextFault};
+use door::{Actor, Entry, ErrorKind, Mark, Outcome, Zone};
+use small_forms::{Lines, page_lines, text_of, userscript_lines};
+use std::alloc::Global;
+
+/// The units of an entry.
+const FUEL: u32 = 200_000;
+
+/// The lines that a script's text is read as, by its zone.
+fn lines_of(alloc: Global, zone: Zone, text: &Text) -> Mem<Lines>
+    requires { (lines : List AnyLine) × Reads zone text.now lines }
+    ensures { IfOk result (λ lines. Reads zone text.now lines) }
+{
+    let found = match zone {
+        Zone::Page => page_lines(alloc, text)?,
+        Zone::Host | Zone::XrayScript | Zone::PlainScript => userscript_lines(alloc, text)?,
+    };
+    match found {
+        Some(lines) => Ok(lines),
+        None => unreachable!(),
+    }
+}
+
+/// An error as a text (ECMAScript, Error.prototype.toString).
+fn error_text(alloc: Global, reason: &ErrorKind) -> Mem<Text>
+    ensures { IfOk result (λ text. text ≡ error_text reason.now) }
+{
+    match reason {
+        ErrorKind::Hierarchy => text_of(alloc, b"HierarchyRequestError: cannot insert here"),
+        ErrorKind::NotFound => text_of(alloc, b"NotFoundError: not a child"),
+        ErrorKind::InvalidState => text_of(alloc, b"InvalidStateError: cannot dispatch now"),
+        ErrorKind::Syntax => text_of(alloc, b"SyntaxError: bad selector"),
+        ErrorKind::InvalidCharacter => text_of(alloc, b"InvalidCharacterError: bad name"),
+        ErrorKind::Limit => text_of(alloc, b"RangeError: limit reached"),
+        ErrorKind::TooDeep => text_of(alloc, b"RangeError: tree too deep"),
+        ErrorKind::TooLong => text_of(alloc, b"RangeError: text too long"),
+        ErrorKind::Range => text_of(alloc, b"RangeError: out of range"),
+        ErrorKind::Kind => text_of(alloc, b"TypeError: wrong kind of value"),
+        ErrorKind::Denied => text_of(alloc, b"Error: Permission denied to access property"),
+        ErrorKind::Crossing(message) => crossing_text(alloc, message),
+    }
+}
+
+/// The text of an error that says why a value can't cross.
+fn crossing_text(alloc: Global, message: &Text) -> Mem<Text>
+    ensures { IfOk result (λ text. text ≡ codes "Error: " ++ message.now) }
+{
+    match text_of(alloc, b"Error: ")?.join(alloc, message) {
+        Ok(text) => Ok(text),
+        // no value crosses yet, so no message is that long
+        Err(TextFault::TooLong | TextFault::NoMemory) => Err(NoMemory),
+    }
+}
+
+/// How an entry ended.
+fn outcome(alloc: Global, ended: &Result<(), Exit>) -> Mem<Outcome>
+    ensures outcome { IfOk result (λ outcome. outcome ≡ outcome_of (done_of ended.now)) }
+    ensures goes { OnOk result (GoesOn ended.now) }
+{
+    match ended {
+        Ok(()) => Ok(Outcome::Done),
+        Err(Exit::Throw(reason)) => Ok(Outcome::Throw(error_text(alloc, reason)?)),
+        Err(Exit::Halt(stop)) => Ok(Outcome::Stop(*stop)),
+        Err(Exit::NoMemory) => Err(NoMemory),
+    }
+}
+
+/// A script is entered with its text, runs its lines, and is left.
+pub fn enter(alloc: Global, w: &mut World, actor: Actor, zone: Zone, text: &Text) -> Mem<()>
+    requires sound { IsSound w.old }
+    requires headed { IsHeaded w.old.tree }
+    requires guest { actor.0 ≢ 0 }
+    requires reads { (lines : List AnyLine) × Reads zone text.now lines }
+    requires room { length w.old.journal.marks + 200002 ≤ w.old.journal.limit }
+    requires limit { w.old.journal.limit < 2 ^ 30 }
+    ensures entry { OnOk result ((marks : List AnyMark) × Adds w.old.journal w.new.journal marks × IsEntry actor text.now marks × (length marks ≤ 200002)) }
+    ensures sound { OnOk result (IsSound w.new) }
+    ensures headed { OnOk result (IsHeaded w.new.tree) }
+    ensures own { OnOk result (w.new.own ≡ w.old.own) }
+    ensures idle { (setups : Setups) → (setups actor).zone ≡ zone → AreIdle setups w.old.journal.marks → OnOk result (AreIdle setups w.new.journal.marks) }
+{
+    let script = lines_of(alloc, zone, text)?;
+    note(w, Mark::Enter(actor, Entry::Script(text.share()?)))?;
+    let mut fuel = FUEL;
+    let ended = lines(alloc, w, actor, zone, &mut fuel, script.as_slice());
+    let outcome = outcome(alloc, &ended)?;
+    note(w, Mark::Leave(actor, outcome, FUEL - fuel))
+}

@@ -1,0 +1,49 @@
+//! How an evaluation ends without a value, and the fuel of an entry.
+
+ghost use Rattle.std.specs.Prelude.{◌≡◌, ◌≤◌, ◌+◌, List, ℕ, OnOk};
+ghost use Rattle.door.specs.declared.marks.Mark.{Mark};
+ghost use Rattle.door.specs.declared.values.Actor.{Actor};
+ghost use Rattle.solo_model.specs.Solo.{Tree};
+ghost use Rattle.solo_model.specs.Meaning.{Bare, Cont, Setup, charge};
+ghost use Rattle.solo_model.specs.Stands.{Stands};
+ghost use Rattle.small_eval.specs.Follows.{AfterUnit};
+
+use base_text::NoMemory;
+use door::{ErrorKind, StopKind};
+
+/// Why an evaluation ends without a value.
+#[derive(Debug, Drop)]
+pub enum Exit {
+    /// An error was thrown.
+    Throw(ErrorKind),
+    /// A limit was met, which nothing catches.
+    Halt(StopKind),
+    /// No memory was found, and the run ends.
+    NoMemory,
+}
+
+impl From<NoMemory> for Exit {
+    ghost use Rattle.std.specs.Prelude.{◌≡◌};
+    ghost use Rattle.small_eval.specs.declared.exit.Exit.TheVariants.{NoMemory as NoMemoryExit};
+
+    ghost from_gives = { λ _ e. e ≡ NoMemoryExit };
+
+    fn from(_error: NoMemory) -> Exit {
+        Exit::NoMemory
+    }
+}
+
+/// Charges units of fuel. A charge above what is left uses all of it.
+#[tactic(auto, unfolding(solo_model::specs::Meaning::charge))]
+pub fn charge(fuel: &mut u32, units: u32) -> Result<(), Exit>
+    ensures own { (s : Setup) (i : Actor) (marks : List Mark) (k : ℕ → Tree Bare) (c : Cont) → Stands s i marks (charge units k c fuel.old) → AfterUnit s i marks fuel.new k c result }
+    ensures fuel { fuel.new ≤ fuel.old }
+    ensures spent { OnOk result (fuel.new + units ≤ fuel.old) }
+{
+    if *fuel < units {
+        *fuel = 0;
+        return Err(Exit::Halt(StopKind::Fuel));
+    }
+    *fuel -= units;
+    Ok(())
+}

@@ -1,0 +1,12 @@
+pub mod Runs
+pub mod Forms
+pub mod Numerals
+pub mod AsciiTexts
+pub mod Options
+pub mod PartFronts
+pub mod SumFronts
+pub mod LineFronts
+pub mod PageLines
+pub mod RawTexts
+pub mod Userscripts
+pub mod PageFronts

@@ -1,0 +1,4 @@
+pub mod Bytes
+pub mod Scripts
+pub mod Pages
+pub mod Readers

@@ -1,0 +1,6 @@
+pub mod OneWay
+pub mod Busy
+pub mod Steps
+pub mod Solos
+pub mod Journals
+pub mod Meets

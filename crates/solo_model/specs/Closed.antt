@@ -1,0 +1,81 @@
+-- How long an actor is closed, which is how long it is said to do what its own machine does; this project's own (after MDN on Xray vision).
+use Rattle.std.specs.Prelude.{◌≡◌, ◌≤◌, ◌&&◌, ◌||◌, ℕ, Bool, true, false, not, List, [], ◌∷◌, ◌++◌, length, nat_le, if◌then◌else◌}
+use Rattle.std.specs.List.{list_any, take_while}
+use Rattle.door.specs.declared.values.Actor.{Actor}
+use Rattle.door.specs.declared.zones.Zone.{Zone}
+use Rattle.door.specs.declared.zones.Zone.TheVariants.{PlainScript}
+use Rattle.door.specs.declared.requests.Request.{Request}
+use Rattle.door.specs.declared.requests.Request.TheVariants.{Reach}
+use Rattle.door.specs.declared.marks.Mark.{Mark}
+use Rattle.door.specs.declared.marks.Mark.TheVariants.{Enter, Ask}
+use Rattle.solo_model.specs.Things.{the_page}
+use Rattle.solo_model.specs.View.{Met, Seen, is_actor, met_of, named_request, view_of}
+use Rattle.solo_model.specs.Solo.{Deed, IsSoloFrom, Requests, beginning, deeds_of, shows_of}
+use Rattle.solo_model.specs.Meaning.{Bare, Fresh, Setup, enters}
+
+-- what each actor is set up with
+abbrev pub Setups : Type 0
+Setups = Actor → Setup
+
+-- actors from 2 on are userscripts
+abbrev pub is_userscript : Actor → Bool
+is_userscript i = nat_le 2 i.0
+
+-- a script that runs among the page's own is as one that has reached out
+abbrev pub is_plain : Zone → Bool
+is_plain PlainScript = true
+is_plain zone = false
+
+abbrev pub is_reach : Request → Bool
+is_reach (Reach operation) = true
+is_reach request = false
+
+-- the actor is the page or this userscript: what ends the one's closedness where that script reaches out
+abbrev pub concerns : Actor → Actor → Bool
+concerns i j = is_userscript j && (is_actor i the_page || is_actor i j)
+
+-- by this mark a userscript reaches out, and the actor is closed no longer: a userscript by its own reach, the page by any script's
+abbrev pub opens : Setups → Actor → Mark → Bool
+opens setups i (Ask j request given) = is_reach request && concerns i j
+opens setups i (Enter j entry) = is_plain (setups j).zone && concerns i j
+opens setups i mark = false
+
+-- no mark has opened the actor
+abbrev pub IsClosed : Setups → Actor → List Mark → Type 0
+IsClosed setups i marks = list_any (opens setups i) marks ≡ false
+
+-- the longest front of a journal in which the actor is closed
+abbrev pub closed_front : Setups → Actor → List Mark → List Mark
+closed_front setups i marks = take_while (λ mark. not (opens setups i mark)) marks
+
+-- the request by which an actor itself reaches out, which is still its machine's
+abbrev pub reach_by : Actor → Met → Mark → List Deed
+reach_by i met (Ask j request given) = if is_actor j i then Requests (named_request i met request) ∷ [] else []
+reach_by i met mark = []
+
+-- the same of the first mark that opens it, if there is one
+abbrev pub reach_in : Setups → Actor → Met → List Mark → List Deed
+reach_in setups i met [] = []
+reach_in setups i met (mark ∷ marks) = if opens setups i mark then reach_by i met mark else reach_in setups i met marks
+
+-- what an actor sees while it is closed
+abbrev pub closed_view : Setups → Actor → List Mark → List Seen
+closed_view setups i marks = view_of i (closed_front setups i marks)
+
+-- what it does, its reach with it
+abbrev pub closed_deeds : Setups → Actor → List Mark → List Deed
+closed_deeds setups i marks = deeds_of (closed_view setups i marks) ++ reach_in setups i (met_of i (closed_front setups i marks)) marks
+
+-- these deeds are what the actor's own machine does by itself, given what the actor was shown
+abbrev pub AreSolo : Setups → Actor → List Mark → List Deed → Type 0
+AreSolo setups i marks deeds = IsSoloFrom (enters (setups i)) (beginning Fresh) (shows_of (closed_view setups i marks)) deeds
+
+-- an actor does what its own machine does by itself, given what it is shown
+abbrev pub ActsAreSolo : Setups → Actor → List Mark → Type 0
+ActsAreSolo setups i marks = AreSolo setups i marks (closed_deeds setups i marks)
+
+-- the same of a journal that was cut off, where one deed may be missing
+pub record ActsAreSoloSoFar (setups : Setups) (i : Actor) (marks : List Mark) : Type 0 where
+  pub due : List Deed
+  pub one : length due ≤ 1
+  pub same : AreSolo setups i marks (closed_deeds setups i marks ++ due)

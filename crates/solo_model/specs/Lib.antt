@@ -1,0 +1,11 @@
+pub mod Things
+pub mod Titles
+pub mod Stage
+pub mod Truth
+pub mod View
+pub mod Solo
+pub mod Errors
+pub mod Meaning
+pub mod Closed
+pub mod Lawful
+pub mod Stands

@@ -1,0 +1,10 @@
+//! What the marks of a run mean: the document after them, the true answers, what one actor sees of them, and what
+//! a script does by itself, given only what it is shown. These are definitions, in `specs/`; the functions here
+//! carry the laws about them.
+#![tactic(auto)]
+
+mod laws;
+mod prim;
+
+pub use laws::equal_shows_give_equal_deeds;
+pub use prim::Prim;
