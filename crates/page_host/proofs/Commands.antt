@@ -1,11 +1,10 @@
 -- How the words of the command line are told.
-use Rattle.std.proofs.Common.{◌≡◌, ◌≢◌, ◌∙◌, ap, sym, refl, subst, ℕ, ◌<◌, ◌≤◌, ◌+◌, Bool, true, false, not, List, [], ◌∷◌, ◌++◌, length, get_or, take, drop, map, filter, arith, if◌then◌else◌, ◌↔◌, IsTrue, codes, length-append, ◌⊎◌, inl, inr, Option, Some, None, is_some, Bor}
+use Rattle.std.proofs.Common.{◌≡◌, ◌≢◌, ◌∙◌, ap, sym, refl, ℕ, ◌<◌, ◌≤◌, Bool, true, false, List, [], ◌∷◌, ◌++◌, length, get_or, take, drop, map, filter, arith, if◌then◌else◌, ◌↔◌, IsTrue, codes, length-append, ◌⊎◌, inl, inr, Option, Some, None, is_some, Bor}
 use Rattle.std.proofs.lemmas.List.{append-nil, length-map}
 use Rattle.std.specs.Fmt.{decimal}
 use Rattle.std.specs.Option.{option_to_list, option_copied}
-use Rattle.std.specs.Str.{bytes_eq}
 use Prim.Native.Nat.{zero, suc}
-use Rattle.page_host.specs.Words.{AreRead, AreRunWords, IsGenerateCommand}
+use Rattle.page_host.specs.Words.{IsGenerateCommand}
 
 -- a list that isn't empty is its first element and the others
 pub first_and : {A : Type 0} (f : A → List ℕ) (xs : List A) (x : A) → 1 ≤ length xs → x ≡ get_or xs 0 x → map f xs ≡ f x ∷ map f (drop 1 xs)

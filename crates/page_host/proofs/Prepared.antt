@@ -1,215 +1,236 @@
 -- What is refused on the way, and what is right at its end, where the folder tells its files.
-use Rattle.std.proofs.Common.{◌≡◌, ◌∙◌, ap, sym, refl, subst, ℕ, Bool, true, false, List, [], ◌∷◌, ◌++◌, ◌⊎◌, inl, inr, codes, Option, Some, None, IfSome, IfOk, IfErr, IsErrOf, Result, Ok, Err, ◌+◌, ◌≢◌, arith}
+use Rattle.std.proofs.Common.{◌≡◌, ◌≢◌, ◌∙◌, ap, sym, refl, subst, ℕ, ◌≤◌, ◌<◌, ◌+◌, true, false, List, [], ◌∷◌, ◌⊎◌, inl, inr, codes, length, map, Option, Some, None, IfSome, IsErrOf, Err, arith}
+use Rattle.std.proofs.lemmas.List.{length-map}
+use Rattle.std.specs.List.{list_any}
+use Rattle.std.specs.String.{string_bytes}
 use Rattle.outside.specs.Contents.{Files, content, AreNamesOf}
 use Rattle.door.specs.declared.marks.Mark.{Mark}
+use Rattle.small_forms.specs.Pages.{IsPage}
+use Rattle.small_forms.specs.declared.page.Page.{Page}
+use Rattle.small_forms.specs.declared.userscript.Userscript.{Userscript}
 use Rattle.page_host.specs.Address.{IsPlainAddress}
 use Rattle.page_host.specs.Faults.{IsOneOf, IsRefusal, page_missing, status_of}
-use Rattle.page_host.specs.declared.host.Made.{Made}
+use Rattle.page_host.specs.Names.{AreScriptsOf, IsScriptNames, SCRIPT_LIMIT, is_events, told_count}
+use Rattle.page_host.specs.Prepared.{AreChosen, AreChosenOf, IsFolderFault, IsFormed, IsFound, IsMade, IsRefusedAt}
+use Rattle.page_host.specs.Run.{Given, IsRight, IsRightOver}
+use Rattle.page_host.specs.Scripts.{AreHeld, AreRead}
+use Rattle.page_host.specs.Steps.{AllWanted, Fits, IsFirstFault, IsRefused, Wants, FewScripts, file_steps, page_steps, steps}
+use Rattle.page_host.specs.Words.{AreRead as AreReadWords, IsRunCommand}
 use Rattle.page_host.specs.declared.faults.HostFault.{HostFault}
+use Rattle.page_host.specs.declared.faults.HostFault.TheVariants.{Usage, PageRefused, ReadFault, WriteFault, NoMemory, TooManyScripts, NotYet}
+use Rattle.page_host.specs.declared.prepare.Found.{Found}
+use Rattle.page_host.specs.declared.prepare.Made.{Made}
+use Rattle.page_host.proofs.Folders.{the_eventless, the_files, the_held, the_names}
+use Rattle.page_host.proofs.NameLists.{eventful, eventless, folder_names, one_order}
 use Rattle.page_host.proofs.Refusals.{one_fault, no_fault}
-use Rattle.page_host.specs.Names.{IsOnlyScript, IsOnlyFile}
-use Rattle.page_host.specs.Page.{IsPage}
-use Rattle.page_host.specs.Played.{journal_of}
-use Rattle.page_host.specs.Report.{report_of}
-use Rattle.page_host.specs.Printed.{document_of}
-use Rattle.page_host.specs.Run.{Given, IsRight, IsRightOver, input_of}
-use Rattle.page_host.specs.Truth.{IsGenuine}
-use Rattle.page_host.specs.Turns.{IsLawful}
-use Rattle.page_host.specs.Steps.{Fits, IsRefused, Wants, BuiltWords, steps}
-use Rattle.page_host.specs.Userscript.{IsUserscript}
-use Rattle.page_host.specs.Words.{AreRead, AreRunWords, IsCommand, IsGenerateCommand, IsRunCommand}
-use Rattle.page_host.specs.declared.faults.HostFault.TheVariants.{Usage, PageRefused, ReadFault, WriteFault, NoMemory, NotYet}
-use Rattle.page_host.specs.declared.userscript.Expression.{Expression}
-use Rattle.page_host.specs.Machine.{IsSolo}
-use Rattle.page_host.specs.Things.{the_page, the_script}
-use Rattle.page_host.specs.View.{view_of}
-use Rattle.page_host.proofs.Acts.{page_unseen, script_solo}
-use Rattle.page_host.proofs.Journals.{document_page, genuine, lawful}
-use Rattle.page_host.proofs.OnlyFile.{only_file, only_script, script_named, the_two, two_only, two_script}
 
--- The words are read as a command at this address.
-pub record Addressed (words : List (List ℕ)) (address : List ℕ) : Type 0 where
-  pub command : IsRunCommand words address false
-  pub plain : IsPlainAddress address
+-- ---- the names
 
-are_read : (words : List (List ℕ)) (address : List ℕ) → Addressed words address → AreRead words
-are_read words address is = inl (address, false, is.command)
+too_many : (words : List (List ℕ)) (files : Files) (scripts : List (List ℕ)) → IsScriptNames files scripts → SCRIPT_LIMIT < length scripts → ¬ Wants words files FewScripts
+too_many words files scripts is many (names, named, few) = let e = ap length (one_order files names scripts named is) in omega (arith, many, few, e)
 
-built_words : (words : List (List ℕ)) (files : Files) (address : List ℕ) → Addressed words address → Wants words files BuiltWords
-built_words words files address is = (address, is.command, is.plain)
+pub names_refused : (told : Option Files) (names scripts : List (List ℕ)) (count : ℕ) → IfSome told (λ files. AreNamesOf files names) → AreScriptsOf names scripts → SCRIPT_LIMIT < length scripts → count ≡ told_count scripts
+    → IsRefusedAt told file_steps (TooManyScripts count)
+unfolding IsFirstFault
+names_refused None names scripts count are is many e = λ _. tt
+names_refused (Some files) names scripts count are is many e =
+    λ _ words. let named = folder_names files names scripts are is in inl (too_many words files scripts named many, (scripts, named, ap (λ n. TooManyScripts n) e))
 
-pub usage_refused : (words : List (List ℕ)) (told : Option Files) → ¬ AreRead words → IfSome told (λ files. IsRefused words files Usage)
-usage_refused words None none = tt
-usage_refused words (Some files) none = inl (none, refl)
+few_names : (files : Files) (names scripts : List (List ℕ)) → AreNamesOf files names → AreScriptsOf names scripts → length scripts ≤ SCRIPT_LIMIT → (words : List (List ℕ)) → Wants words files FewScripts
+few_names files names scripts are is few words = (scripts, folder_names files names scripts are is, few)
 
-pub words_refused : (words : List (List ℕ)) (told : Option Files) → AreRead words × ((address : List ℕ) → IsRunCommand words address false → IsPlainAddress address → ⊥) → IfSome told (λ files. IsRefused words files NotYet)
-words_refused words None h = tt
-words_refused words (Some files) h = inr (h.0, inl (λ wanted. h.1 wanted.0 wanted.1 wanted.2, refl))
+pub events_refused : (told : Option Files) (names scripts : List (List ℕ)) → IfSome told (λ files. AreNamesOf files names) → AreScriptsOf names scripts → length scripts ≤ SCRIPT_LIMIT → list_any is_events names ≡ true → IsRefusedAt told file_steps NotYet
+unfolding IsFirstFault
+events_refused None names scripts are is few some = λ _. tt
+events_refused (Some files) names scripts are is few some = λ _ words. inr (few_names files names scripts are is few words, inl (eventful files names are some, refl))
 
-pub names_refused : (words : List (List ℕ)) (told : Option Files) (address : List ℕ) (names : List (List ℕ)) → Addressed words address → IfSome told (λ files. AreNamesOf files names)
-    → ((file : List ℕ) → IsOnlyScript names file → ⊥) → IfSome told (λ files. IsRefused words files NotYet)
-names_refused words None address names is are none = tt
-names_refused words (Some files) address names is are none =
-    inr (are_read words address is, inr (built_words words files address is, inl (λ wanted. none wanted.0 (only_script files names wanted.0 are wanted.1), refl)))
+pub names_chosen : (told : Option Files) (names scripts : List (List ℕ)) → IfSome told (λ files. AreNamesOf files names) → AreScriptsOf names scripts → list_any is_events names ≡ false → IfSome told (λ files. AreChosenOf files scripts)
+names_chosen None names scripts are is none = tt
+names_chosen (Some files) names scripts are is none = record { named = folder_names files names scripts are is; eventless = eventless files names are none }
 
-pub none_some : {A : Type 0} (o : Option A) (x : A) → o ≡ None → o ≡ Some x → ⊥
-none_some o x e f = let both = sym e ∙ f in cc
+-- ---- the page
 
-pub page_refused : (words : List (List ℕ)) (told second : Option Files) (address file : List ℕ) (names : List (List ℕ)) → second ≡ told → Addressed words address → IfSome told (λ files. AreNamesOf files names) → IsOnlyScript names file
-    → IfSome second (λ files. content files (codes "page.html") ≡ None) → IfSome told (λ files. IsRefused words files page_missing)
-page_refused words None second address file names same is are only none = tt
-page_refused words (Some files) second address file names same is are only none =
-    let P : Option Files → Type 0 = λ o. IfSome o (λ files. content files (codes "page.html") ≡ None) in
-    let missing : content files (codes "page.html") ≡ None = subst P same none in
-    inr (are_read words address is, inr (built_words words files address is, inr ((file, only_file files names file are only), inl (λ wanted. none_some _ wanted.0 missing wanted.1, refl))))
+pub page_refused : (told : Option Files) → IfSome told (λ files. content files (codes "page.html") ≡ None) → IsRefusedAt told page_steps page_missing
+unfolding IsFirstFault
+page_refused None none = λ _. tt
+page_refused (Some files) none = λ _ words. inl ((λ wanted. let both : None ≡ Some wanted.0 = sym none ∙ wanted.1 in cc), refl)
 
-same_page : (files : Files) (page other : List ℕ) → content files (codes "page.html") ≡ Some page → content files (codes "page.html") ≡ Some other → page ≡ other
-same_page files page other e f = let both : Some page ≡ Some other = sym e ∙ f in cc
-
-pub title_refused : (words : List (List ℕ)) (told second : Option Files) (address file page : List ℕ) (names : List (List ℕ)) → second ≡ told → Addressed words address → IfSome told (λ files. AreNamesOf files names) → IsOnlyScript names file
-    → IfSome second (λ files. content files (codes "page.html") ≡ Some page) → ((title : List ℕ) → IsPage page title → ⊥) → IfSome told (λ files. IsRefused words files NotYet)
-title_refused words None second address file page names same is are only paged none = tt
-title_refused words (Some files) second address file page names same is are only paged none =
-    let P : Option Files → Type 0 = λ o. IfSome o (λ files. content files (codes "page.html") ≡ Some page) in
-    let found : content files (codes "page.html") ≡ Some page = subst P same paged in
+pub form_refused : (told : Option Files) (bytes : List ℕ) → IfSome told (λ files. content files (codes "page.html") ≡ Some bytes) → ((page : Page) → IsPage bytes page → ⊥) → IsRefusedAt told page_steps NotYet
+unfolding IsFirstFault
+form_refused None bytes there none = λ _. tt
+form_refused (Some files) bytes there none =
+    λ _ words.
     inr (
-      are_read words address is,
-      inr (
-        built_words words files address is,
-        inr (
-          (file, only_file files names file are only),
-          inr (
-            (page, found),
-            inl (λ wanted. let Q : List ℕ → Type 0 = λ p. IsPage p wanted.1 in none wanted.1 (subst Q (sym (same_page files page wanted.0 found wanted.2)) wanted.3), refl),
-          ),
-        ),
+      (bytes, there),
+      inl (
+        (λ wanted.
+            let both : Some bytes ≡ Some wanted.0 = sym there ∙ wanted.2 in
+            let same : wanted.0 ≡ bytes = cc in
+            let P : List ℕ → Type 0 = λ b. IsPage b wanted.1 in
+            none wanted.1 (subst P same wanted.3)),
+        refl,
       ),
     )
 
--- What was read before the script.
-pub record Before (words : List (List ℕ)) (told second : Option Files) (address file page title : List ℕ) (names : List (List ℕ)) : Type 0 where
-  pub same : second ≡ told
-  pub addressed : Addressed words address
-  pub named : IfSome told (λ files. AreNamesOf files names)
-  pub only : IsOnlyScript names file
-  pub paged : IfSome second (λ files. content files (codes "page.html") ≡ Some page)
-  pub titled : IsPage page title
+pub page_told : (told : Option Files) (bytes : List ℕ) (page : Page) → IfSome told (λ files. content files (codes "page.html") ≡ Some bytes) → IsPage bytes page → IfSome told (λ files. (b : List ℕ) × (content files (codes "page.html") ≡ Some b) × IsPage b page)
+page_told None bytes page there is = tt
+page_told (Some files) bytes page there is = (bytes, there, is)
 
--- the script that is found isn't one, or none is found
-pub script_refused : (words : List (List ℕ)) (told second third : Option Files) (address file page title : List ℕ) (names : List (List ℕ)) (found : Option (List ℕ)) → Before words told second address file page title names → third ≡ second
-    → IfSome third (λ files. found ≡ content files file) → ((script name : List ℕ) (lines : List Expression) → found ≡ Some script → IsUserscript script name lines → ⊥) → IfSome told (λ files. IsRefused words files NotYet)
-script_refused words None second third address file page title names found h again scripted none = tt
-script_refused words (Some files) second third address file page title names found h again scripted none =
-    let P : Option Files → Type 0 = λ o. IfSome o (λ files. content files (codes "page.html") ≡ Some page) in
-    let Q : Option Files → Type 0 = λ o. IfSome o (λ files. found ≡ content files file) in
-    let paged : content files (codes "page.html") ≡ Some page = subst P h.same h.paged in
-    let script_is : found ≡ content files file = subst Q (again ∙ h.same) scripted in
-    let only = only_file files names file h.named h.only in
+-- of the faults of a read only the missing page is a refusal
+pub is_missing : (e : HostFault) → (e ≡ ReadFault) ⊎ (e ≡ NoMemory) ⊎ (e ≡ page_missing) → IsRefusal e → e ≡ page_missing
+is_missing e (inl is) refusal = absurd (subst IsRefusal is refusal)
+is_missing e (inr (inl is)) refusal = absurd (subst IsRefusal is refusal)
+is_missing e (inr (inr is)) refusal = is
+
+pub page_fault : (e : HostFault) → (e ≡ ReadFault) ⊎ (e ≡ NoMemory) ⊎ (e ≡ page_missing) → IsFolderFault e
+page_fault e (inl is) = subst IsFolderFault (sym is) tt
+page_fault e (inr (inl is)) = subst IsFolderFault (sym is) tt
+page_fault e (inr (inr is)) = subst IsFolderFault (sym is) refl
+
+-- the page isn't read
+pub unread_refused : (T : Type 0) (told : Option Files) (e : HostFault) → (e ≡ ReadFault) ⊎ (e ≡ NoMemory) ⊎ (e ≡ page_missing) → (IsErrOf {T = T} (Err e) page_missing → IfSome told (λ files. content files (codes "page.html") ≡ None)) → IsRefusedAt told page_steps e
+unread_refused T told e other missing =
+    λ refusal.
+    let P : HostFault → Type 0 = λ f. IsRefusedAt told page_steps f in
+    let is = is_missing e other refusal in
+    subst P (sym is) (page_refused told (missing (ap (λ x. Err x) is))) refusal
+
+-- ---- all of the folder
+
+few_told : (told : Option Files) (names : List (List ℕ)) → IfSome told (λ files. AreChosenOf files names) → AreChosen names → IfSome told (λ files. (words : List (List ℕ)) → Wants words files FewScripts)
+few_told None names chosen forms = tt
+few_told (Some files) names chosen forms = λ words. (names, chosen.named, forms.few)
+
+-- the page is refused after the names
+pub after_names : (told second : Option Files) (names : List (List ℕ)) (e : HostFault) → second ≡ told → IfSome told (λ files. AreChosenOf files names) → AreChosen names → IsRefusedAt second page_steps e → IsRefusedAt told file_steps e
+unfolding IsFirstFault
+after_names None second names e same chosen forms refused = λ _. tt
+after_names (Some files) second names e same chosen forms refused =
+    let P : Option Files → Type 0 = λ o. IsRefusedAt o page_steps e in
+    λ refusal words. inr ((names, chosen.named, forms.few), inr (chosen.eventless, subst P same refused refusal words))
+
+-- a userscript is refused after the page
+pub after_page : (told second third : Option Files) (names : List (List ℕ)) (page : Page) (e : HostFault) → second ≡ told → third ≡ second → IfSome told (λ files. AreChosenOf files names) → AreChosen names
+    → IfSome second (λ files. (bytes : List ℕ) × (content files (codes "page.html") ≡ Some bytes) × IsPage bytes page) → (e ≡ NotYet → IfSome third (λ files. (scripts : List Userscript) → AreRead files names scripts → ⊥))
+    → (e ≡ ReadFault) ⊎ (e ≡ NoMemory) ⊎ (e ≡ NotYet) → IsRefusedAt told file_steps e
+unfolding IsFirstFault
+after_page told second third names page e same again chosen forms paged none (inl is) = λ refusal. absurd (subst IsRefusal is refusal)
+after_page told second third names page e same again chosen forms paged none (inr (inl is)) = λ refusal. absurd (subst IsRefusal is refusal)
+after_page None second third names page e same again chosen forms paged none (inr (inr is)) = λ _. tt
+after_page (Some files) second third names page e same again chosen forms paged none (inr (inr is)) =
+    let P : Option Files → Type 0 = λ o. IfSome o (λ files. (bytes : List ℕ) × (content files (codes "page.html") ≡ Some bytes) × IsPage bytes page) in
+    let Q : Option Files → Type 0 = λ o. IfSome o (λ files. (scripts : List Userscript) → AreRead files names scripts → ⊥) in
+    let there = subst P same paged in
+    let unread = subst Q (again ∙ same) (none is) in
+    λ _ words.
     inr (
-      are_read words address h.addressed,
+      (names, chosen.named, forms.few),
       inr (
-        built_words words files address h.addressed,
+        chosen.eventless,
         inr (
-          (file, only),
+          (there.0, there.1),
           inr (
-            (page, paged),
-            inr (
-              (page, title, paged, h.titled),
-              inl (
-                λ wanted.
-                    let R : List ℕ → Type 0 = λ f. content files f ≡ Some wanted.1 in
-                    let one : wanted.0 ≡ file = only.only wanted.0 wanted.4.there wanted.4.script in
-                    none wanted.1 wanted.2 wanted.3 (script_is ∙ subst R one wanted.5) wanted.6,
-                refl,
-              ),
+            (there.0, page, there.1, there.2),
+            inl (
+              (λ wanted.
+                  let R : List (List ℕ) → Type 0 = λ l. AreRead files l wanted.1 in
+                  unread wanted.1 (subst R (one_order files wanted.0 names wanted.2 chosen.named) wanted.3)),
+              is,
             ),
           ),
         ),
       ),
     )
 
-made_right : (words : List (List ℕ)) (files : Files) (address file page title script name : List ℕ) (lines : List Expression) (marks : List Mark) (bytes : List ℕ) → Addressed words address → IsOnlyFile files file → IsPage page title
-    → content files (codes "page.html") ≡ Some page → content files file ≡ Some script → IsUserscript script name lines → marks ≡ journal_of title script lines → bytes ≡ report_of address file page marks → IsRight words files marks bytes
-made_right words files address file page title script name lines marks bytes addressed only titled paged scripted is played reported = record {
-  given = record {
-    address = address;
-    file = file;
-    page = page;
-    title = title;
-    script = script;
-    name = name;
-    lines = lines;
-    command = addressed.command;
-    plain = addressed.plain;
-    only = only;
-    paged = paged;
-    titled = titled;
-    scripted = scripted;
-    reads = is;
-  };
-  lawful = let L : List Mark → Type 0 = λ ms. IsLawful (input_of title script) ms in subst L (sym played) (lawful title script lines);
-  genuine = let G : List Mark → Type 0 = λ ms. IsGenuine ms in subst G (sym played) (genuine title script lines titled.titled);
-  acts = let A : List Mark → Type 0 = λ ms. IsSolo script (view_of the_script ms) in subst A (sym played) (script_solo title script name lines is);
-  idle = ap (view_of the_page) played ∙ page_unseen title script lines;
-  reported = reported ∙ ap (λ document. report_of address file document marks) (titled.whole ∙ sym (document_page title script lines titled.titled) ∙ ap document_of (sym played));
-}
+pub script_fault : (e : HostFault) → (e ≡ ReadFault) ⊎ (e ≡ NoMemory) ⊎ (e ≡ NotYet) → IsFolderFault e
+script_fault e (inl is) = subst IsFolderFault (sym is) tt
+script_fault e (inr (inl is)) = subst IsFolderFault (sym is) tt
+script_fault e (inr (inr is)) = subst IsFolderFault (sym is) tt
 
-pub given_right : (words : List (List ℕ)) (told second third : Option Files) (address file page title script name : List ℕ) (lines : List Expression) (names : List (List ℕ)) (marks : List Mark) (bytes : List ℕ)
-    → Before words told second address file page title names → third ≡ second → IfSome third (λ files. Some script ≡ content files file) → IsUserscript script name lines → marks ≡ journal_of title script lines → bytes ≡ report_of address file page marks
-    → IsRightOver words told marks bytes
-given_right words None second third address file page title script name lines names marks bytes h again scripted is played reported =
-    let userscript = script_named names file h.only in
-    record {
-      files = the_two file page script;
-      told_so = tt;
-      right = made_right words (the_two file page script) address file page title script name lines marks bytes h.addressed (two_only file page script userscript) h.titled refl (two_script file page script userscript) is played reported;
-    }
-given_right words (Some files) second third address file page title script name lines names marks bytes h again scripted is played reported =
-    let P : Option Files → Type 0 = λ o. IfSome o (λ files. content files (codes "page.html") ≡ Some page) in
-    let Q : Option Files → Type 0 = λ o. IfSome o (λ files. Some script ≡ content files file) in
-    record {
-      files = files;
-      told_so = refl;
-      right = made_right words files address file page title script name lines marks bytes h.addressed (only_file files names file h.named h.only) h.titled (subst P h.same h.paged) (sym (subst Q (again ∙ h.same) scripted)) is played reported;
-    }
+pub all_found : (told second third : Option Files) (found : Found) → second ≡ told → third ≡ second → IfSome told (λ files. AreChosenOf files (map string_bytes found.files.items))
+    → IfSome second (λ files. (bytes : List ℕ) × (content files (codes "page.html") ≡ Some bytes) × IsPage bytes found.page) → IfSome third (λ files. AreHeld files (map string_bytes found.files.items) found.scripts.items)
+    → IfSome told (λ files. IsFound files found)
+all_found None second third found same again chosen paged held = tt
+all_found (Some files) second third found same again chosen paged held =
+    let P : Option Files → Type 0 = λ o. IfSome o (λ files. (bytes : List ℕ) × (content files (codes "page.html") ≡ Some bytes) × IsPage bytes found.page) in
+    let Q : Option Files → Type 0 = λ o. IfSome o (λ files. AreHeld files (map string_bytes found.files.items) found.scripts.items) in
+    record { chosen = chosen; paged = subst P same paged; held = subst Q (again ∙ same) held }
 
--- what is given fits
-pub given_fits : (words : List (List ℕ)) (files : Files) → Given words files → Fits words files
-given_fits words files g =
-    (inl (g.address, false, g.command), ((g.address, g.command, g.plain), ((g.file, g.only), ((g.page, g.paged), ((g.page, g.title, g.paged, g.titled), ((g.file, g.script, g.name, g.lines, g.only, g.scripted, g.reads), tt))))))
+-- ---- the whole run
 
-pub address_refused : (T : Type 0) (words : List (List ℕ)) (told : Option Files) (e : HostFault) → (IsErrOf {T = T} (Err e) Usage → ¬ AreRead words) → (IsErrOf {T = T} (Err e) NotYet → AreRead words × ((address : List ℕ) → IsRunCommand words address false → IsPlainAddress address → ⊥))
+-- The words are read as a command at this address.
+pub record Addressed (words : List (List ℕ)) (address : List ℕ) : Type 0 where
+  pub command : IsRunCommand words address false
+  pub plain : IsPlainAddress address
+
+are_read : (words : List (List ℕ)) (address : List ℕ) → Addressed words address → AreReadWords words
+are_read words address is = inl (address, false, is.command)
+
+usage_refused : (words : List (List ℕ)) (told : Option Files) → ¬ AreReadWords words → IfSome told (λ files. IsRefused words files Usage)
+unfolding IsFirstFault
+usage_refused words None none = tt
+usage_refused words (Some files) none = inl (none, refl)
+
+words_refused : (words : List (List ℕ)) (told : Option Files) → AreReadWords words × ((address : List ℕ) → IsRunCommand words address false → IsPlainAddress address → ⊥) → IfSome told (λ files. IsRefused words files NotYet)
+unfolding IsFirstFault
+words_refused words None h = tt
+words_refused words (Some files) h = inr (h.0, inl ((λ wanted. h.1 wanted.0 wanted.1 wanted.2), refl))
+
+pub address_refused : (T : Type 0) (words : List (List ℕ)) (told : Option Files) (e : HostFault) → (IsErrOf {T = T} (Err e) Usage → ¬ AreReadWords words) → (IsErrOf {T = T} (Err e) NotYet → AreReadWords words × ((address : List ℕ) → IsRunCommand words address false → IsPlainAddress address → ⊥))
     → (e ≡ Usage) ⊎ (e ≡ NotYet) → IfSome told (λ files. IsRefused words files e)
 address_refused T words told e usage not_yet (inl is) = let P : HostFault → Type 0 = λ f. IfSome told (λ files. IsRefused words files f) in subst P (sym is) (usage_refused words told (usage (ap (λ x. Err x) is)))
 address_refused T words told e usage not_yet (inr is) = let P : HostFault → Type 0 = λ f. IfSome told (λ files. IsRefused words files f) in subst P (sym is) (words_refused words told (not_yet (ap (λ x. Err x) is)))
 
--- of these faults only the missing page is a refusal
-pub is_missing : (e : HostFault) → (e ≡ ReadFault) ⊎ (e ≡ NoMemory) ⊎ (e ≡ page_missing) → IsRefusal e → e ≡ page_missing
-is_missing e (inl is) refusal = absurd (subst IsRefusal is refusal)
-is_missing e (inr (inl is)) refusal = absurd (subst IsRefusal is refusal)
-is_missing e (inr (inr is)) refusal = is
+-- what the folder is refused for is refused after the words
+pub folder_refused : (words : List (List ℕ)) (told : Option Files) (address : List ℕ) (e : HostFault) → Addressed words address → IsRefusedAt told file_steps e → IsRefusal e → IfSome told (λ files. IsRefused words files e)
+unfolding IsFirstFault
+folder_refused words None address e is refused refusal = tt
+folder_refused words (Some files) address e is refused refusal = inr (are_read words address is, inr ((address, is.command, is.plain), refused refusal words))
 
--- the run isn't made
-pub make_refused : {T : Type 0} (words : List (List ℕ)) (told second third : Option Files) (address file page title script : List ℕ) (names : List (List ℕ)) (r : Result T HostFault) → Before words told second address file page title names → third ≡ second
-    → IfSome third (λ files. Some script ≡ content files file) → (IsErrOf r NotYet → (name : List ℕ) (lines : List Expression) → IsUserscript script name lines → ⊥) → IfErr r (λ e. (e ≡ NotYet) ⊎ (e ≡ NoMemory))
-    → IfErr r (λ fault. IsRefusal fault → IfSome told (λ files. IsRefused words files fault))
-make_refused words told second third address file page title script names (Ok x) h again scripted none other = tt
-make_refused words told second third address file page title script names (Err e) h again scripted none (inl is) =
-    λ _.
-    let P : HostFault → Type 0 = λ f. IfSome told (λ files. IsRefused words files f) in
-    subst P (sym is) (script_refused words told second third address file page title names (Some script) h again scripted (λ found name lines same reads.
-    let Q : List ℕ → Type 0 = λ s. IsUserscript s name lines in
-    let one : found ≡ script = cc in
-    none (ap (λ x. Err x) is) name lines (subst Q one reads)))
-make_refused words told second third address file page title script names (Err e) h again scripted none (inr is) = λ refusal. absurd (subst IsRefusal is refusal)
+right_of : (words : List (List ℕ)) (files : Files) (address : List ℕ) (found : Found) (made : Made) → Addressed words address → IsFormed found → IsFound files found → IsMade address found made → IsRight words files made.journal.marks made.report.items
+right_of words files address found made is formed told made_is = record {
+  given = record {
+    address = address;
+    bytes = told.paged.0;
+    page = found.page;
+    names = map string_bytes found.files.items;
+    scripts = found.scripts.items;
+    command = is.command;
+    plain = is.plain;
+    named = told.chosen.named;
+    few = formed.chosen.few;
+    eventless = told.chosen.eventless;
+    paged = told.paged.1;
+    reads = told.paged.2;
+    scripted = record { held = told.held; scripts_are = formed.scripts_are; distinct = formed.distinct };
+  };
+  lawful = made_is.lawful;
+  genuine = made_is.genuine;
+  acts = made_is.acts address;
+  reported = made_is.reported;
+}
 
--- the run is made
-pub make_right : (words : List (List ℕ)) (told second third : Option Files) (address file page title script : List ℕ) (names : List (List ℕ)) (r : Result Made HostFault) → Before words told second address file page title names → third ≡ second
-    → IfSome third (λ files. Some script ≡ content files file) → IfOk r (λ made. (name : List ℕ) × (lines : List Expression) × IsUserscript script name lines × (made.journal.marks ≡ journal_of title script lines))
-    → IfOk r (λ made. made.report.items ≡ report_of address file page made.journal.marks) → IfOk r (λ made. IsRightOver words told made.journal.marks made.report.items)
-make_right words told second third address file page title script names (Ok made) h again scripted played reported =
-    given_right words told second third address file page title script played.0 played.1 names made.journal.marks made.report.items h again scripted played.2 played.3 reported
-make_right words told second third address file page title script names (Err e) h again scripted played reported = tt
+-- the files that would hold what was read
+found_in : (found : Found) (formed : IsFormed found) → IsFound (the_files formed.paged.0 (map string_bytes found.files.items) found.scripts.items) found
+found_in found formed =
+    let names = map string_bytes found.files.items in
+    let count : length found.scripts.items ≡ length names = formed.count ∙ sym (length-map found.files.items string_bytes) in
+    record {
+      chosen = record { named = the_names formed.paged.0 names found.scripts.items formed.chosen count; eventless = the_eventless formed.paged.0 names found.scripts.items formed.chosen };
+      paged = (formed.paged.0, refl, formed.paged.1);
+      held = the_held formed.paged.0 names found.scripts.items formed.chosen count;
+    }
+
+pub run_right : (words : List (List ℕ)) (told : Option Files) (address : List ℕ) (found : Found) (made : Made) → Addressed words address → IsFormed found → IfSome told (λ files. IsFound files found) → IsMade address found made
+    → IsRightOver words told made.journal.marks made.report.items
+run_right words None address found made is formed of_files made_is = record { files = _; told_so = tt; right = right_of words _ address found made is formed (found_in found formed) made_is }
+run_right words (Some files) address found made is formed of_files made_is = record { files = files; told_so = refl; right = right_of words files address found made is formed of_files made_is }
+
+-- what is given fits
+given_fits : (words : List (List ℕ)) (files : Files) → Given words files → Fits words files
+unfolding AllWanted
+given_fits words files g =
+    (inl (g.address, false, g.command), ((g.address, g.command, g.plain), ((g.names, g.named, g.few), (g.eventless, ((g.bytes, g.paged), ((g.bytes, g.page, g.paged, g.reads), ((g.names, g.scripts, g.named, g.scripted), tt)))))))
 
 -- a refusal is answered by its status
 pub err_refused : (words : List (List ℕ)) (told : Option Files) (e : HostFault) (status : ℕ) → status ≡ status_of e → (IsRefusal e → IfSome told (λ files. IsRefused words files e)) → (e ≡ WriteFault → ⊥)
@@ -217,6 +238,7 @@ pub err_refused : (words : List (List ℕ)) (told : Option Files) (e : HostFault
 err_refused words None e status s is write = tt
 err_refused words (Some files) Usage status s is write = λ fault other. inl (s ∙ ap status_of (one_fault words files steps Usage fault (is tt) other))
 err_refused words (Some files) (PageRefused page) status s is write = λ fault other. inl (s ∙ ap status_of (one_fault words files steps (PageRefused page) fault (is tt) other))
+err_refused words (Some files) (TooManyScripts count) status s is write = λ fault other. inl (s ∙ ap status_of (one_fault words files steps (TooManyScripts count) fault (is tt) other))
 err_refused words (Some files) NotYet status s is write = λ fault other. inl (s ∙ ap status_of (one_fault words files steps NotYet fault (is tt) other))
 err_refused words (Some files) ReadFault status s is write = λ fault other. inr (inl s)
 err_refused words (Some files) WriteFault status s is write = absurd (write refl)
@@ -228,6 +250,7 @@ pub err_complete : (words : List (List ℕ)) (told : Option Files) (e : HostFaul
 err_complete words None e status R S s is write read = tt
 err_complete words (Some files) Usage status R S s is write read = λ fits _ _. absurd (no_fault words files steps Usage fits (is tt))
 err_complete words (Some files) (PageRefused page) status R S s is write read = λ fits _ _. absurd (no_fault words files steps (PageRefused page) fits (is tt))
+err_complete words (Some files) (TooManyScripts count) status R S s is write read = λ fits _ _. absurd (no_fault words files steps (TooManyScripts count) fits (is tt))
 err_complete words (Some files) NotYet status R S s is write read = λ fits _ _. absurd (no_fault words files steps NotYet fits (is tt))
 err_complete words (Some files) ReadFault status R S s is write read = λ fits none _. absurd (none (read refl))
 err_complete words (Some files) WriteFault status R S s is write read = absurd (write refl)

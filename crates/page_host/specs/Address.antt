@@ -1,7 +1,7 @@
 -- The one form of address that is read yet; this project's own.
 use Rattle.std.specs.Prelude.{◌≡◌, ◌≤◌, ℕ, List, ◌++◌, length, codes}
-use Rattle.page_host.specs.Bytes.{AreRuns}
-use Rattle.page_host.specs.declared.bytes.Class.TheVariants.{Lower, Dot}
+use Rattle.small_forms.specs.Bytes.{AreRuns}
+use Rattle.small_forms.specs.declared.bytes.Class.TheVariants.{Lower, Dot}
 
 -- `http://`, runs of lower-case ASCII letters with a dot between two, and `/`, in at most 253 bytes
 pub record IsPlainAddress (address : List ℕ) : Type 0 where

@@ -2,8 +2,7 @@
 use Rattle.std.specs.Prelude.{◌≡◌, ◌⊎◌, ℕ, List, [], ◌∷◌, ◌++◌, codes}
 use Rattle.std.specs.Fmt.{decimal}
 use Rattle.page_host.specs.declared.faults.HostFault.{HostFault}
-use Rattle.page_host.specs.declared.faults.HostFault.TheVariants.{Usage, PageRefused, ReadFault, WriteFault, NoMemory, NotYet}
-use Rattle.page_host.specs.declared.faults.PageFault.{PageFault}
+use Rattle.page_host.specs.declared.faults.HostFault.TheVariants.{Usage, PageRefused, ReadFault, WriteFault, NoMemory, TooManyScripts, NotYet}
 use Rattle.page_host.specs.declared.faults.PageKind.{PageKind}
 use Rattle.page_host.specs.declared.faults.PageKind.TheVariants.{Missing, NotUtf8, TooLong, Unclosed, BadTag, WrongEnd, TooDeep}
 
@@ -14,6 +13,7 @@ status_of (PageRefused fault) = 3
 status_of ReadFault = 6
 status_of WriteFault = 8
 status_of NoMemory = 11
+status_of (TooManyScripts count) = 12
 status_of NotYet = 14
 
 -- the name of each kind
@@ -33,6 +33,7 @@ line_of (PageRefused fault) = codes "page refused at " ++ (decimal fault.at ++ (
 line_of ReadFault = codes "read fault"
 line_of WriteFault = codes "write fault"
 line_of NoMemory = codes "no memory"
+line_of (TooManyScripts count) = codes "too many userscripts: " ++ decimal count
 line_of NotYet = codes "not built yet"
 
 -- `page.html` is missing
@@ -48,6 +49,7 @@ IsOneOf status (s ∷ statuses) = (status ≡ s) ⊎ IsOneOf status statuses
 abbrev pub IsRefusal : HostFault → Type 0
 IsRefusal Usage = Unit {0}
 IsRefusal (PageRefused fault) = Unit {0}
+IsRefusal (TooManyScripts count) = Unit {0}
 IsRefusal NotYet = Unit {0}
 IsRefusal ReadFault = ⊥
 IsRefusal WriteFault = ⊥
@@ -55,4 +57,4 @@ IsRefusal NoMemory = ⊥
 
 -- the statuses of refusals
 abbrev pub IsRefusalStatus : ℕ → Type 0
-IsRefusalStatus status = IsOneOf status (2 ∷ (3 ∷ (14 ∷ [])))
+IsRefusalStatus status = IsOneOf status (2 ∷ (3 ∷ (12 ∷ (14 ∷ []))))

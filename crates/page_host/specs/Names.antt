@@ -1,6 +1,9 @@
 -- The names of a folder's files; this project's own.
-use Rattle.std.specs.Prelude.{◌≡◌, ℕ, Bool, false, IsTrue, List, [], ◌∷◌, codes, filter, nat_eq, None, IsSome}
-use Rattle.std.specs.List.{ends_with, list_any}
+use Rattle.std.specs.Prelude.{◌↔◌, ◌-◌, ◌^◌, ℕ, Bool, IsTrue, List, codes, nat_eq, min, length, Contains, IsSome}
+use Rattle.std.specs.List.{ends_with}
+use Rattle.std.specs.List.Sorted.{IsStrictlySortedBy}
+use Rattle.std.specs.Cmp.Lexicographic.{slice_cmp}
+use Rattle.std.specs.Ordering.{nat_cmp}
 use Rattle.std.specs.Str.{bytes_eq}
 use Rattle.outside.specs.Contents.{Files, content}
 
@@ -12,14 +15,24 @@ is_userscript name = ends_with nat_eq name (codes ".user.js")
 abbrev pub is_events : List ℕ → Bool
 is_events name = bytes_eq name (codes "events.txt")
 
--- this is the one userscript among these names, and no list of events is
-pub record IsOnlyScript (names : List (List ℕ)) (file : List ℕ) : Type 0 where
-  pub only : filter is_userscript names ≡ file ∷ []
-  pub no_events : list_any is_events names ≡ false
+-- in byte order, each once
+abbrev pub AreInOrder : List (List ℕ) → Type 0
+AreInOrder names = IsStrictlySortedBy (slice_cmp nat_cmp) names
 
--- this is the one userscript of a folder, which has no list of events
-pub record IsOnlyFile (files : Files) (file : List ℕ) : Type 0 where
-  pub there : IsSome (content files file)
-  pub script : IsTrue (is_userscript file)
-  pub only : (other : List ℕ) → IsSome (content files other) → IsTrue (is_userscript other) → other ≡ file
-  pub no_events : content files (codes "events.txt") ≡ None
+-- these are the names of userscripts among all names, in byte order
+pub record AreScriptsOf (names scripts : List (List ℕ)) : Type 0 where
+  pub order : AreInOrder scripts
+  pub exact : (name : List ℕ) → (Contains scripts name ↔ (Contains names name × IsTrue (is_userscript name)))
+
+-- these are the names of a folder's userscripts, in byte order
+pub record IsScriptNames (files : Files) (scripts : List (List ℕ)) : Type 0 where
+  pub order : AreInOrder scripts
+  pub exact : (name : List ℕ) → (Contains scripts name ↔ (IsSome (content files name) × IsTrue (is_userscript name)))
+
+-- the most userscripts of a folder
+abbrev pub SCRIPT_LIMIT : ℕ
+SCRIPT_LIMIT = 8
+
+-- the number of userscripts that a fault tells
+abbrev pub told_count : List (List ℕ) → ℕ
+told_count scripts = min (length scripts) (2 ^ 32 - 1)

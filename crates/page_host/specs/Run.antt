@@ -1,56 +1,88 @@
 -- What a run of the form that is built makes; this project's own.
-use Rattle.std.specs.Prelude.{◌≡◌, ℕ, Bool, false, List, [], ◌∷◌, codes, Option, Some, IfSome}
+use Rattle.std.specs.Prelude.{◌≡◌, ◌≢◌, ◌≤◌, ◌⊎◌, ℕ, true, false, List, codes, length, nat_eq, if◌then◌else◌, Option, Some, None, IfSome}
 use Rattle.outside.specs.Contents.{Files, content}
+use Rattle.door.specs.declared.grants.GrantSet.{GrantSet}
 use Rattle.door.specs.declared.marks.Mark.{Mark}
+use Rattle.door.specs.declared.values.Actor.{Actor}
+use Rattle.door.specs.declared.zones.Zone.TheVariants.{Page as PageZone, XrayScript}
+use Rattle.door.specs.Forest.{the_host}
+use Rattle.small_forms.specs.Pages.{IsPage}
+use Rattle.small_forms.specs.declared.page.Page.{Page}
+use Rattle.small_forms.specs.declared.userscript.Userscript.{Userscript}
+use Rattle.solo_model.specs.Closed.{ActsAreSolo, ActsAreSoloSoFar, Setups}
+use Rattle.solo_model.specs.Lawful.{Input, IsLawful, IsLawfulSoFar}
+use Rattle.solo_model.specs.Truth.{IsGenuine}
 use Rattle.page_host.specs.Address.{IsPlainAddress}
-use Rattle.page_host.specs.Names.{IsOnlyFile}
-use Rattle.page_host.specs.Machine.{IsSolo}
-use Rattle.page_host.specs.Page.{IsPage}
-use Rattle.page_host.specs.Pieces.{page_builds}
+use Rattle.page_host.specs.Names.{IsScriptNames, SCRIPT_LIMIT}
+use Rattle.small_eval.specs.Pieces.{pieces_of}
 use Rattle.page_host.specs.Printed.{document_of}
 use Rattle.page_host.specs.Report.{report_of}
-use Rattle.page_host.specs.Things.{the_page, the_script}
-use Rattle.page_host.specs.Truth.{IsGenuine}
-use Rattle.page_host.specs.Turns.{Input, IsLawful}
-use Rattle.page_host.specs.Userscript.{IsUserscript}
-use Rattle.page_host.specs.View.{view_of}
+use Rattle.page_host.specs.Scripts.{AreRead, texts_in}
 use Rattle.page_host.specs.Words.{IsRunCommand}
-use Rattle.page_host.specs.declared.userscript.Expression.{Expression}
 
--- The address, the page and the userscript that words and files give.
+-- The address, the page and the userscripts that words and files give.
 pub record Given (words : List (List ℕ)) (files : Files) : Type 0 where
   pub address : List ℕ
-  pub file : List ℕ
-  pub page : List ℕ
-  pub title : List ℕ
-  pub script : List ℕ
-  pub name : List ℕ
-  pub lines : List Expression
+  pub bytes : List ℕ
+  pub page : Page
+  pub names : List (List ℕ)
+  pub scripts : List Userscript
   pub command : IsRunCommand words address false
   pub plain : IsPlainAddress address
-  pub only : IsOnlyFile files file
-  pub paged : content files (codes "page.html") ≡ Some page
-  pub titled : IsPage page title
-  pub scripted : content files file ≡ Some script
-  pub reads : IsUserscript script name lines
+  pub named : IsScriptNames files names
+  pub few : length names ≤ SCRIPT_LIMIT
+  pub eventless : content files (codes "events.txt") ≡ None
+  pub paged : content files (codes "page.html") ≡ Some bytes
+  pub reads : IsPage bytes page
+  pub scripted : AreRead files names scripts
 
--- the page of one piece and the userscript that a run is given; all bytes of these forms are ASCII, so they are the scalars of their texts
-abbrev pub input_of : List ℕ → List ℕ → Input
-input_of title script = record { pieces = page_builds title ∷ []; starts = script ∷ [] }
+-- the pieces of a page and the texts of the userscripts; all bytes of these forms are ASCII, so they are the scalars of their texts
+abbrev pub input_of : Page → List (List ℕ) → Input
+input_of page texts = record { pieces = pieces_of page; starts = texts }
+
+-- no grant
+abbrev pub no_grants : GrantSet
+no_grants = record { no_grant = false; unsafe_window = false; get_value = false; set_value = false; delete_value = false; list_values = false; log = false }
+
+-- the grant of each userscript of the form: `GM_log` alone
+abbrev pub log_grant : GrantSet
+log_grant = record no_grants { log = true }
+
+-- the page is actor 1, and every other that runs is a userscript, which sees the page through Xrays
+abbrev pub setups_of : List ℕ → Setups
+setups_of address i =
+    if nat_eq i.0 1 then record { zone = PageZone; grants = no_grants; address = address } else record { zone = XrayScript; grants = log_grant; address = address }
+
+-- every actor but the host does what its own machine does by itself
+abbrev pub AllActsAreSolo : List ℕ → List Mark → Type 0
+AllActsAreSolo address marks = (i : Actor) → i ≢ the_host → ActsAreSolo (setups_of address) i marks
 
 -- The journal of these marks and the report of these bytes are right for these words and files: the journal has the turns of the run,
--- its answers are the true ones, the userscript does what its own machine does by itself, the page, which has no script, does nothing
--- (which follows from the turns), and the report is that of the journal and of the document that its marks build.
+-- its answers are the true ones, the page and each userscript do what their own machines do by themselves, and the report is that of the
+-- journal and of the document that its marks build.
 pub record IsRight (words : List (List ℕ)) (files : Files) (marks : List Mark) (bytes : List ℕ) : Type 0 where
   pub given : Given words files
-  pub lawful : IsLawful (input_of given.title given.script) marks
+  pub lawful : IsLawful (input_of given.page (texts_in given.scripts)) marks
   pub genuine : IsGenuine marks
-  pub acts : IsSolo given.script (view_of the_script marks)
-  pub idle : view_of the_page marks ≡ []
-  pub reported : bytes ≡ report_of given.address given.file (document_of marks) marks
+  pub acts : AllActsAreSolo given.address marks
+  pub reported : bytes ≡ report_of given.address given.names (document_of marks) marks
 
 -- The same for the files that a folder tells, and for some files where it tells none.
 pub record IsRightOver (words : List (List ℕ)) (told : Option Files) (marks : List Mark) (bytes : List ℕ) : Type 0 where
   pub files : Files
   pub told_so : IfSome told (λ all. all ≡ files)
   pub right : IsRight words files marks bytes
+
+-- the turns of what these words and files give, as far as they came
+pub record IsBegun (words : List (List ℕ)) (told : Option Files) (marks : List Mark) : Type 0 where
+  pub files : Files
+  pub told_so : IfSome told (λ all. all ≡ files)
+  pub given : Given words files
+  pub lawful : IsLawfulSoFar (input_of given.page (texts_in given.scripts)) marks
+
+-- What holds of the journal of a run that ended early: its turns are those of the run as far as they came, and those of every run where
+-- none came; its answers are the true ones, and each actor but the host did what its own machine does by itself, but for one deed at most.
+pub record IsRightSoFar (words : List (List ℕ)) (told : Option Files) (marks : List Mark) : Type 0 where
+  pub lawful : ((input : Input) → IsLawfulSoFar input marks) ⊎ IsBegun words told marks
+  pub genuine : IsGenuine marks
+  pub acts : (address : List ℕ) (i : Actor) → i ≢ the_host → ActsAreSoloSoFar (setups_of address) i marks

@@ -1,54 +1,65 @@
 -- What a run wants of words and files, step by step, and what it refuses; this project's own.
-use Rattle.std.specs.Prelude.{◌≡◌, ◌⊎◌, ℕ, Bool, false, List, [], ◌∷◌, codes, Some}
+use Rattle.std.specs.Prelude.{◌≡◌, ◌≤◌, ◌⊎◌, ℕ, false, List, [], ◌∷◌, codes, length, Some, None}
 use Rattle.outside.specs.Contents.{Files, content}
+use Rattle.small_forms.specs.Pages.{IsPage}
+use Rattle.small_forms.specs.declared.page.Page.{Page}
+use Rattle.small_forms.specs.declared.userscript.Userscript.{Userscript}
 use Rattle.page_host.specs.Address.{IsPlainAddress}
 use Rattle.page_host.specs.Faults.{page_missing}
-use Rattle.page_host.specs.Names.{IsOnlyFile}
-use Rattle.page_host.specs.Page.{IsPage}
-use Rattle.page_host.specs.Userscript.{IsUserscript}
-use Rattle.page_host.specs.Words.{AreRead, IsRunCommand}
+use Rattle.page_host.specs.Names.{IsScriptNames, SCRIPT_LIMIT, told_count}
+use Rattle.page_host.specs.Scripts.{AreRead}
+use Rattle.page_host.specs.Words.{AreRead as AreReadWords, IsRunCommand}
 use Rattle.page_host.specs.declared.faults.HostFault.{HostFault}
-use Rattle.page_host.specs.declared.faults.HostFault.TheVariants.{Usage, NotYet}
-use Rattle.page_host.specs.declared.userscript.Expression.{Expression}
+use Rattle.page_host.specs.declared.faults.HostFault.TheVariants.{Usage, TooManyScripts, NotYet}
 
 pub data Step : Type 0 where
   ReadWords : Step
   BuiltWords : Step
-  BuiltNames : Step
+  FewScripts : Step
+  NoEvents : Step
   PageThere : Step
   BuiltPage : Step
-  BuiltScript : Step
+  BuiltScripts : Step
+
+-- the steps over page and userscripts, in their order
+abbrev pub page_steps : List Step
+page_steps = PageThere ∷ (BuiltPage ∷ (BuiltScripts ∷ []))
+
+-- all steps over files
+abbrev pub file_steps : List Step
+file_steps = FewScripts ∷ (NoEvents ∷ page_steps)
 
 -- the steps in their order
 abbrev pub steps : List Step
-steps = ReadWords ∷ (BuiltWords ∷ (BuiltNames ∷ (PageThere ∷ (BuiltPage ∷ (BuiltScript ∷ [])))))
+steps = ReadWords ∷ (BuiltWords ∷ file_steps)
 
 -- what a step wants
 abbrev pub Wants : List (List ℕ) → Files → Step → Type 0
-Wants words files ReadWords = AreRead words
+Wants words files ReadWords = AreReadWords words
 Wants words files BuiltWords = (address : List ℕ) × IsRunCommand words address false × IsPlainAddress address
-Wants words files BuiltNames = (file : List ℕ) × IsOnlyFile files file
-Wants words files PageThere = (page : List ℕ) × (content files (codes "page.html") ≡ Some page)
-Wants words files BuiltPage = (page : List ℕ) × (title : List ℕ) × (content files (codes "page.html") ≡ Some page) × IsPage page title
-Wants words files BuiltScript =
-    (file : List ℕ) × (script : List ℕ) × (name : List ℕ) × (lines : List Expression) × IsOnlyFile files file × (content files file ≡ Some script) × IsUserscript script name lines
+Wants words files FewScripts = (names : List (List ℕ)) × IsScriptNames files names × (length names ≤ SCRIPT_LIMIT)
+Wants words files NoEvents = content files (codes "events.txt") ≡ None
+Wants words files PageThere = (bytes : List ℕ) × (content files (codes "page.html") ≡ Some bytes)
+Wants words files BuiltPage = (bytes : List ℕ) × (page : Page) × (content files (codes "page.html") ≡ Some bytes) × IsPage bytes page
+Wants words files BuiltScripts = (names : List (List ℕ)) × (scripts : List Userscript) × IsScriptNames files names × AreRead files names scripts
 
 -- the fault where a step doesn't have what it wants
-abbrev pub fault_at : Step → HostFault
-fault_at ReadWords = Usage
-fault_at BuiltWords = NotYet
-fault_at BuiltNames = NotYet
-fault_at PageThere = page_missing
-fault_at BuiltPage = NotYet
-fault_at BuiltScript = NotYet
+abbrev pub IsFaultAt : Files → Step → HostFault → Type 0
+IsFaultAt files ReadWords fault = fault ≡ Usage
+IsFaultAt files BuiltWords fault = fault ≡ NotYet
+IsFaultAt files FewScripts fault = (names : List (List ℕ)) × IsScriptNames files names × (fault ≡ TooManyScripts (told_count names))
+IsFaultAt files NoEvents fault = fault ≡ NotYet
+IsFaultAt files PageThere fault = fault ≡ page_missing
+IsFaultAt files BuiltPage fault = fault ≡ NotYet
+IsFaultAt files BuiltScripts fault = fault ≡ NotYet
 
 -- the fault is that of the first of these steps that doesn't have what it wants
-abbrev pub IsFirstFault : List (List ℕ) → Files → List Step → HostFault → Type 0
+unfoldable pub IsFirstFault : List (List ℕ) → Files → List Step → HostFault → Type 0
 IsFirstFault words files [] fault = ⊥
-IsFirstFault words files (step ∷ steps) fault = ((¬ Wants words files step) × (fault ≡ fault_at step)) ⊎ (Wants words files step × IsFirstFault words files steps fault)
+IsFirstFault words files (step ∷ steps) fault = ((¬ Wants words files step) × IsFaultAt files step fault) ⊎ (Wants words files step × IsFirstFault words files steps fault)
 
 -- each of these steps has what it wants
-abbrev pub AllWanted : List (List ℕ) → Files → List Step → Type 0
+unfoldable pub AllWanted : List (List ℕ) → Files → List Step → Type 0
 AllWanted words files [] = Unit {0}
 AllWanted words files (step ∷ steps) = Wants words files step × AllWanted words files steps
 

@@ -3,7 +3,7 @@
 ghost use Rattle.page_host.specs.Address.{IsPlainAddress};
 ghost use Rattle.std.specs.Prelude.{◌↔◌, IsTrue};
 
-use crate::bytes::{Class, after, are_runs, before};
+use small_forms::{Class, after, are_runs, before};
 
 /// The most bytes of an address.
 const ADDRESS_LIMIT: usize = 253;

@@ -46,6 +46,8 @@ pub enum HostFault {
     WriteFault,
     /// No memory was found.
     NoMemory,
+    /// There are more userscripts than a run may have: so many, or 2^32 - 1 where there are more.
+    TooManyScripts(u32),
     /// The words or the files are of a form that isn't built yet.
     NotYet,
 }
@@ -71,6 +73,7 @@ impl HostFault {
             HostFault::ReadFault => 6,
             HostFault::WriteFault => 8,
             HostFault::NoMemory => 11,
+            HostFault::TooManyScripts(_) => 12,
             HostFault::NotYet => 14,
         }
     }
@@ -100,6 +103,12 @@ fn page_line(alloc: Global, fault: PageFault) -> Result<String, AllocError>
     format!(in alloc; "page refused at {at}: {kind}")
 }
 
+fn scripts_line(alloc: Global, count: u32) -> Result<String, AllocError>
+    ensures { IfOk result (λ line. string_bytes line ≡ line_of (HostFault.TooManyScripts count)) }
+{
+    format!(in alloc; "too many userscripts: {count}")
+}
+
 /// The line that tells a fault, without `pagehost: ` and LF.
 pub fn fault_line(alloc: Global, fault: &HostFault) -> Mem<String>
     ensures { IfOk result (λ line. string_bytes line ≡ line_of fault.now) }
@@ -110,6 +119,7 @@ pub fn fault_line(alloc: Global, fault: &HostFault) -> Mem<String>
         HostFault::ReadFault => "read fault",
         HostFault::WriteFault => "write fault",
         HostFault::NoMemory => "no memory",
+        HostFault::TooManyScripts(count) => return Ok(scripts_line(alloc, count)?),
         HostFault::NotYet => "not built yet",
     };
     Ok(String::from_str(alloc, line)?)

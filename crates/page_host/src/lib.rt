@@ -2,21 +2,21 @@
 #![tactic(auto)]
 
 mod address;
-mod ascii;
-mod bytes;
 mod faults;
 mod host;
-mod marks;
-mod page;
+mod names;
 mod play;
+mod prepare;
+mod print;
+mod reads;
 mod report_text;
-mod script;
-mod userscript;
+mod scripts;
 mod words;
 
 pub use faults::{HostFault, PageFault, PageKind, fault_line};
 pub use host::{Ended, host_run};
-pub use userscript::scripts_are_read_one_way;
 
+#[cfg(test)]
+mod play_tests;
 #[cfg(test)]
 mod tests;

@@ -1,112 +1,58 @@
-//! The turns of a run: the page's one piece, DOMContentLoaded, the userscript, load.
+//! How what was read is played.
 
-ghost use Rattle.page_host.specs.Bytes.{is_blank};
-ghost use Rattle.page_host.specs.Played.{Adds, journal_of, load_marks, piece_marks, ready_marks, script_marks, told_title};
-ghost use Rattle.std.specs.Prelude.{◌≡◌, ◌+◌, ◌*◌, ◌≤◌, length, map, IfOk, IsTrue, OnOk, if◌then◌else◌};
-ghost use Rattle.std.specs.List.{list_all};
-ghost use Rattle.std.specs.Char.{is_ascii};
+ghost use Rattle.page_host.specs.Names.{SCRIPT_LIMIT};
+ghost use Rattle.page_host.specs.Run.{AllActsAreSolo, input_of};
+ghost use Rattle.page_host.specs.Scripts.{AreScripts, texts_in};
+ghost use Rattle.small_forms.specs.Pages.{IsPage};
+ghost use Rattle.solo_model.specs.Lawful.{IsLawful};
+ghost use Rattle.solo_model.specs.Stage.{stage_of};
+ghost use Rattle.solo_model.specs.Truth.{IsGenuine};
+ghost use Rattle.std.specs.Prelude.{◌≡◌, ◌∷◌, ◌++◌, [], ◌≤◌, List, ℕ, length, IfOk, OnOk};
 
-use crate::ascii::text_of;
-use crate::bytes::Class;
-use crate::marks::{
-    DOCUMENT, SCRIPT, WINDOW, build_element, build_text, element, host_event, note,
-};
-use crate::script::run_lines;
-use crate::userscript::Expression;
 use base_text::{Mem, Text};
-use door::{Entry, Journal, Kind, Mark, Outcome, Task, Thing};
+use dom_tree::Tree;
+use door::Journal;
+use small_eval::{World, play as play_world};
+use small_forms::{Page, Userscript};
 use std::alloc::Global;
 
-/// The most marks of a run.
-pub const MARK_LIMIT: u32 = 4_000_000;
-
-/// The journal of a page of this title and a userscript of this text and these lines.
-pub fn play(alloc: Global, title: &[u8], script: &[u8], lines: &[Expression]) -> Mem<Journal>
-    requires few { length lines.now ≤ 1024 }
-    requires title_short { length title.now ≤ 256 }
-    requires title_ascii { IsTrue (list_all is_ascii title.now) }
-    requires script_short { length script.now ≤ 1024 }
-    requires script_ascii { IsTrue (list_all is_ascii script.now) }
-    ensures { IfOk result (λ journal. journal.marks ≡ journal_of title.now script.now lines.now) }
-{
-    let told = told_title(alloc, title)?;
-    let title = text_of(alloc, title)?;
-    let script = text_of(alloc, script)?;
-    let mut journal = Journal::new(alloc, MARK_LIMIT);
-    build_page(alloc, &mut journal, &title)?;
-    make_ready(alloc, &mut journal)?;
-    run_script(alloc, &mut journal, &told, &script, lines)?;
-    load(alloc, &mut journal)?;
-    Ok(journal)
+/// A run that was played to its end.
+#[derive(Drop)]
+pub struct Played {
+    pub journal: Journal,
+    /// The document at its end.
+    pub tree: Tree,
 }
 
-/// The title as it is told, with a space for each tab.
-fn told_title(alloc: Global, title: &[u8]) -> Mem<Text>
-    requires short { length title.now ≤ 256 }
-    requires ascii { IsTrue (list_all is_ascii title.now) }
-    ensures { IfOk result (λ told. told ≡ told_title title.now) }
+fn keep(texts: &mut Vec<Text>, script: &Userscript) -> Mem<()>
+    ensures { OnOk result (texts.new.items ≡ texts.old.items ++ script.now.text ∷ []) }
 {
-    let mut told = Vec::new(alloc);
-    for byte in title {
-        told.push(if Class::Blank.has(*byte) { b' ' } else { *byte })?;
+    texts.push(script.text.share()?)?;
+    Ok(())
+}
+
+/// The texts of userscripts.
+fn texts_in(alloc: Global, scripts: &[Userscript]) -> Mem<Vec<Text>>
+    ensures { IfOk result (λ texts. texts.items ≡ texts_in scripts.now) }
+{
+    let mut texts = Vec::new(alloc);
+    for script in scripts {
+        keep(&mut texts, script)?;
     }
-    text_of(alloc, told.as_slice())
+    Ok(texts)
 }
 
-/// The turn of the page's one piece.
-fn build_page(alloc: Global, journal: &mut Journal, title: &Text) -> Mem<()>
-    requires { length journal.old.marks + 11 ≤ journal.old.limit }
-    ensures { OnOk result (Adds journal.old journal.new (piece_marks title.now)) }
+/// Plays the run of a page and its userscripts.
+pub fn play(alloc: Global, page: &Page, scripts: &[Userscript]) -> Mem<Played>
+    requires page { (bytes : List ℕ) × IsPage bytes page.now }
+    requires few { length scripts.now ≤ SCRIPT_LIMIT }
+    requires scripts { AreScripts scripts.now }
+    ensures lawful { IfOk result (λ played. IsLawful (input_of page.now (texts_in scripts.now)) played.journal.marks) }
+    ensures genuine { IfOk result (λ played. IsGenuine played.journal.marks) }
+    ensures acts { IfOk result (λ played. (address : List ℕ) → AllActsAreSolo address played.journal.marks) }
+    ensures document { IfOk result (λ played. played.tree ≡ (stage_of played.journal.marks).nodes) }
 {
-    let text = Thing {
-        kind: Kind::Str,
-        number: 4,
-    };
-    note(journal, Mark::Turn(Task::Piece(0)))?;
-    build_element(alloc, journal, "html", 1, DOCUMENT)?;
-    build_element(alloc, journal, "head", 2, element(1))?;
-    build_element(alloc, journal, "title", 3, element(2))?;
-    build_text(alloc, journal, title, text, element(3))?;
-    build_element(alloc, journal, "body", 5, element(1))?;
-    Ok(())
-}
-
-/// The turn of DOMContentLoaded.
-fn make_ready(alloc: Global, journal: &mut Journal) -> Mem<()>
-    requires { length journal.old.marks + 4 ≤ journal.old.limit }
-    ensures { OnOk result (Adds journal.old journal.new ready_marks) }
-{
-    note(journal, Mark::Turn(Task::Ready))?;
-    host_event(alloc, journal, "DOMContentLoaded", 0, true, DOCUMENT)?;
-    Ok(())
-}
-
-/// The turn of the userscript.
-fn run_script(
-    alloc: Global,
-    journal: &mut Journal,
-    told: &Text,
-    script: &Text,
-    lines: &[Expression],
-) -> Mem<()>
-    requires room { length journal.old.marks + 3 * length lines.now + 3 ≤ journal.old.limit }
-    requires few { length lines.now ≤ 1024 }
-    ensures { OnOk result (Adds journal.old journal.new (script_marks told.now script.now lines.now)) }
-{
-    note(journal, Mark::Turn(Task::Start(0)))?;
-    let entry = Entry::Script(script.share()?);
-    note(journal, Mark::Enter(SCRIPT, entry))?;
-    let units = run_lines(alloc, journal, told, lines)?;
-    note(journal, Mark::Leave(SCRIPT, Outcome::Done, units))?;
-    Ok(())
-}
-
-/// The turn of load.
-fn load(alloc: Global, journal: &mut Journal) -> Mem<()>
-    requires { length journal.old.marks + 4 ≤ journal.old.limit }
-    ensures { OnOk result (Adds journal.old journal.new load_marks) }
-{
-    note(journal, Mark::Turn(Task::Load))?;
-    host_event(alloc, journal, "load", 1, false, WINDOW)?;
-    Ok(())
+    let texts = texts_in(alloc, scripts)?;
+    let World { journal, tree, .. } = play_world(alloc, page, texts.as_slice())?;
+    Ok(Played { journal, tree })
 }

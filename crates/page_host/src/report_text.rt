@@ -1,29 +1,28 @@
 //! The bytes of the report.
 
-ghost use Rattle.page_host.specs.Report.{escaped, escaped_byte, mark_line, logged, report_head, report_of, report_tail, turns_in};
-ghost use Rattle.page_host.specs.Page.{page_text};
-ghost use Rattle.std.specs.Prelude.{◌≡◌, ◌++◌, ◌≤◌, IfOk, OnOk, take, length, IsTrue};
-ghost use Rattle.std.specs.List.{flat_map, list_all};
-ghost use Rattle.std.specs.Fmt.{decimal};
+ghost use Rattle.page_host.specs.Report.{escaped, escaped_byte, logged_line, mark_line, outcome_line, report_head, report_of, report_tail, request_line, script_line, stop_name, told_line, turns_in, who_of};
+ghost use Rattle.std.specs.Prelude.{◌≡◌, ◌++◌, IfOk, OnOk, map};
+ghost use Rattle.std.specs.List.{flat_map};
 ghost use Rattle.std.specs.Option.{option_copied};
+ghost use Rattle.std.specs.String.{string_bytes};
 
-use base_text::{Mem, Text};
-use door::{Actor, Journal, Mark, Member, Request, Value};
+use base_text::Mem;
+use door::{Actor, Journal, Mark, Member, Outcome, Request, StopKind, Value, Values};
 use std::alloc::Global;
 
-/// The report of a run at this address, whose one userscript started, and whose document is printed so.
+/// The report of a run at this address, whose userscripts are these files, and whose document is printed so.
 pub fn report(
     alloc: Global,
     address: &str,
-    file: &str,
+    files: &[String],
     document: &[u8],
     journal: &Journal,
 ) -> Mem<Vec<u8>>
-    ensures { IfOk result (λ report. report.items ≡ report_of address.now file.now document.now journal.now.marks) }
+    ensures { IfOk result (λ report. report.items ≡ report_of address.now (map string_bytes files.now) document.now journal.now.marks) }
 {
     let mut out = Vec::new(alloc);
-    push_head(&mut out, address, file)?;
-    push_log(&mut out, file, journal)?;
+    push_head(&mut out, address, files)?;
+    push_log(&mut out, files, journal)?;
     push_tail(alloc, &mut out, document, turns_in(journal))?;
     Ok(out)
 }
@@ -56,52 +55,121 @@ fn push_escaped(out: &mut Vec<u8>, bytes: &[u8]) -> Mem<()>
     Ok(())
 }
 
-/// The lines up to the log.
-fn push_head(out: &mut Vec<u8>, address: &str, file: &str) -> Mem<()>
-    ensures { OnOk result (out.new.items ≡ out.old.items ++ report_head address.now file.now) }
+/// The line of a userscript that starts.
+fn push_script(out: &mut Vec<u8>, file: &str) -> Mem<()>
+    ensures { OnOk result (out.new.items ≡ out.old.items ++ script_line file.now) }
 {
-    push(out, b"pagehost 1\naddress ")?;
-    push(out, address.as_bytes())?;
-    push(out, b"\nscript ")?;
+    push(out, b"script ")?;
     push_escaped(out, file.as_bytes())?;
-    push(out, b" started\n")?;
+    push(out, b" started\n")
+}
+
+fn push_scripts(out: &mut Vec<u8>, files: &[String]) -> Mem<()>
+    ensures { OnOk result (out.new.items ≡ out.old.items ++ flat_map script_line (map string_bytes files.now)) }
+{
+    for file in files {
+        push_script(out, file.as_str())?;
+    }
     Ok(())
 }
 
-/// The text that the first userscript logs by a mark.
-fn logged_text(mark: &Mark) -> Option<&Text>
-    ensures { option_copied result ≡ logged mark.now }
+/// The lines up to the log.
+fn push_head(out: &mut Vec<u8>, address: &str, files: &[String]) -> Mem<()>
+    ensures { OnOk result (out.new.items ≡ out.old.items ++ report_head address.now (map string_bytes files.now)) }
 {
-    let Mark::Ask(Actor(2), Request::Native(Member::GmLog, _, arguments), _) = mark else {
-        return None;
+    push(out, b"pagehost 1\naddress ")?;
+    push(out, address.as_bytes())?;
+    push(out, b"\n")?;
+    push_scripts(out, files)?;
+    Ok(())
+}
+
+/// Who an actor is.
+fn who_of(files: &[String], actor: Actor) -> Option<&str>
+    ensures { option_copied result ≡ who_of (map string_bytes files.now) actor }
+{
+    match actor.0 {
+        0 => None,
+        1 => Some("page"),
+        number => {
+            let file = files.get(number as usize - 2)?;
+            Some(file.as_str())
+        }
+    }
+}
+
+/// A word, who it is, and the text.
+fn push_told(out: &mut Vec<u8>, word: &str, who: Option<&str>, text: &str) -> Mem<()>
+    ensures { OnOk result (out.new.items ≡ out.old.items ++ told_line word.now (option_copied who.entry) text.now) }
+{
+    let Some(who) = who else {
+        return Ok(());
     };
+    push(out, word.as_bytes())?;
+    push(out, b" ")?;
+    push_escaped(out, who.as_bytes())?;
+    push(out, b" ")?;
+    push_escaped(out, text.as_bytes())?;
+    push(out, b"\n")
+}
+
+fn push_logged(out: &mut Vec<u8>, who: Option<&str>, arguments: &Values) -> Mem<()>
+    ensures { OnOk result (out.new.items ≡ out.old.items ++ logged_line (option_copied who.entry) arguments.now) }
+{
     match arguments.as_slice() {
-        [Value::Str(text)] => Some(text),
-        _ => None,
+        [Value::Str(text)] => push_told(out, "log", who, text.as_str()),
+        _ => Ok(()),
+    }
+}
+
+fn push_request(out: &mut Vec<u8>, who: Option<&str>, request: &Request) -> Mem<()>
+    ensures { OnOk result (out.new.items ≡ out.old.items ++ request_line (option_copied who.entry) request.now) }
+{
+    match request {
+        Request::Native(Member::GmLog | Member::ConsoleLog, _, arguments) => {
+            push_logged(out, who, arguments)
+        }
+        _ => Ok(()),
+    }
+}
+
+fn stop_name(stop: StopKind) -> &'static str
+    ensures { result.now ≡ stop_name stop }
+{
+    match stop {
+        StopKind::Fuel => "fuel",
+        StopKind::Levels => "levels",
+        StopKind::Cells => "cells",
+    }
+}
+
+fn push_outcome(out: &mut Vec<u8>, who: Option<&str>, outcome: &Outcome) -> Mem<()>
+    ensures { OnOk result (out.new.items ≡ out.old.items ++ outcome_line (option_copied who.entry) outcome.now) }
+{
+    match outcome {
+        Outcome::Throw(text) => push_told(out, "throw", who, text.as_str()),
+        Outcome::Stop(stop) => push_told(out, "stop", who, stop_name(*stop)),
+        _ => Ok(()),
     }
 }
 
 /// The line of a mark, where it has one.
-fn push_line(out: &mut Vec<u8>, who: &str, mark: &Mark) -> Mem<()>
-    ensures { OnOk result (out.new.items ≡ out.old.items ++ mark_line who.now mark.now) }
+fn push_line(out: &mut Vec<u8>, files: &[String], mark: &Mark) -> Mem<()>
+    ensures { OnOk result (out.new.items ≡ out.old.items ++ mark_line (map string_bytes files.now) mark.now) }
 {
-    let Some(text) = logged_text(mark) else {
-        return Ok(());
-    };
-    push(out, b"log ")?;
-    push_escaped(out, who.as_bytes())?;
-    push(out, b" ")?;
-    push_escaped(out, text.as_str().as_bytes())?;
-    push(out, b"\n")?;
-    Ok(())
+    match mark {
+        Mark::Ask(actor, request, _) => push_request(out, who_of(files, *actor), request),
+        Mark::Leave(actor, outcome, _) => push_outcome(out, who_of(files, *actor), outcome),
+        _ => Ok(()),
+    }
 }
 
 /// The lines of the log.
-fn push_log(out: &mut Vec<u8>, file: &str, journal: &Journal) -> Mem<()>
-    ensures { OnOk result (out.new.items ≡ out.old.items ++ flat_map (λ mark. mark_line file.now mark) journal.now.marks) }
+fn push_log(out: &mut Vec<u8>, files: &[String], journal: &Journal) -> Mem<()>
+    ensures { OnOk result (out.new.items ≡ out.old.items ++ flat_map (mark_line (map string_bytes files.now)) journal.now.marks) }
 {
     for mark in journal.marks() {
-        push_line(out, file, mark)?;
+        push_line(out, files, mark)?;
     }
     Ok(())
 }

@@ -1,127 +1,173 @@
-//! What no clause says: that runs succeed while there is memory, and the printed text of whole runs.
+//! What no clause says: that runs succeed while there is memory, and the printed text of whole runs. Here:
+//! the first example, and what is refused.
 
 use crate::*;
-use door::{Journal, Mark};
 use outside::{MemoryFolder, MemoryKeeper, MemorySink, is_folder};
 use std::alloc::{AllocError, Global};
 use std::process::Abort;
 use std::test::Fail;
 
-const PAGE: &str = "<html><head><title>Hi</title></head><body></body></html>";
+pub const PAGE: &str = "<html><head><title>Hi</title></head><body></body></html>";
 
-const BLOCK: &str = "// ==UserScript==\n// @name a\n// @grant GM_log\n// ==/UserScript==\n";
+pub const WORDS: &str = "run http://example.com/";
 
-const HEAD: &str = "pagehost 1\naddress http://example.com/\nscript a.user.js started\n";
+pub const TITLE_LOG: &str = "GM_log(document.title);\n";
 
-const TAIL: &str = "\nstore\n{\"form\":1,\"stores\":[]}\nend 0 tasks 4\n";
-
-/// A run over objects in memory. Words are parted by spaces, an empty page is none, and call 0 is none.
+/// What a folder holds, and which calls fail. An empty page is none, and call 0 is none. A userscript is
+/// its file's name, the name that its metadata says, and its lines.
 #[derive(Clone, Copy)]
-struct Run {
-    words: &'static str,
-    page: &'static str,
-    name: &'static str,
-    lines: &'static str,
-    failing_call: u32,
-    failing_write: u32,
+pub struct Run<'a> {
+    pub words: &'a str,
+    pub page: &'a str,
+    pub scripts: &'a [(&'a str, &'a str, &'a str)],
+    pub failing_call: u32,
+    pub failing_write: u32,
 }
 
-/// The run of the first worked example.
-const FIRST: Run = Run {
-    words: "run http://example.com/",
-    page: PAGE,
-    name: "a.user.js",
-    lines: "GM_log(document.title);\n",
-    failing_call: 0,
-    failing_write: 0,
-};
+/// The run of the first worked example, with these userscripts.
+pub fn first<'a>(scripts: &'a [(&'a str, &'a str, &'a str)]) -> Run<'a> {
+    Run {
+        words: WORDS,
+        page: PAGE,
+        scripts,
+        failing_call: 0,
+        failing_write: 0,
+    }
+}
 
 /// What a run gave.
 #[derive(Drop)]
-struct Given {
-    ended: Ended,
-    written: Vec<u8>,
+pub struct Given {
+    pub ended: Ended,
+    pub written: Vec<u8>,
 }
 
-fn file(
+pub fn joined(alloc: Global, parts: &[&str]) -> Result<String, AllocError> {
+    let mut text = String::new(alloc);
+    for part in parts {
+        text.push_str(*part)?;
+    }
+    Ok(text)
+}
+
+pub fn file(alloc: Global, name: &str, parts: &[&str]) -> Result<(String, Vec<u8>), AllocError> {
+    Ok((
+        String::from_str(alloc, name)?,
+        joined(alloc, parts)?.into_bytes(),
+    ))
+}
+
+pub fn script(
     alloc: Global,
+    file_name: &str,
     name: &str,
-    first: &str,
-    second: &str,
+    lines: &str,
 ) -> Result<(String, Vec<u8>), AllocError> {
-    let mut bytes = Vec::from_slice(alloc, first.as_bytes())?;
-    bytes.extend_from_slice(second.as_bytes())?;
-    Ok((String::from_str(alloc, name)?, bytes))
+    let block = "// ==UserScript==\n// @name ";
+    let grant = "\n// @grant GM_log\n// ==/UserScript==\n";
+    file(alloc, file_name, &[block, name, grant, lines])
 }
 
-fn files(alloc: Global, run: Run) -> Result<Vec<(String, Vec<u8>)>, AllocError> {
+fn files(alloc: Global, run: Run<'_>) -> Result<Vec<(String, Vec<u8>)>, AllocError> {
     let mut files = Vec::new(alloc);
-    files.push(file(alloc, run.name, BLOCK, run.lines)?)?;
+    for (file_name, name, lines) in run.scripts {
+        files.push(script(alloc, *file_name, *name, *lines)?)?;
+    }
     if !run.page.is_empty() {
-        files.push(file(alloc, "page.html", run.page, "")?)?;
+        files.push(file(alloc, "page.html", &[run.page])?)?;
     }
     Ok(files)
 }
 
-fn words(alloc: Global, run: Run) -> Result<Vec<String>, AllocError> {
+fn words(alloc: Global, text: &str) -> Result<Vec<String>, AllocError> {
     let mut words = Vec::new(alloc);
-    if !run.words.is_empty() {
-        for word in run.words.split(' ') {
+    if !text.is_empty() {
+        for word in text.split(' ') {
             words.push(String::from_str(alloc, word)?)?;
         }
     }
     Ok(words)
 }
 
-fn run_of<R: Abort + AllocGlobal>(rt: &R, run: Run) -> Result<Given, Fail> {
-    let alloc = rt.alloc();
-    let words = words(alloc, run)?;
-    let files = files(alloc, run)?;
-    run_over(rt, &words, files, run.failing_call, run.failing_write)
+pub fn run_of<R: Abort + AllocGlobal>(rt: &R, run: Run<'_>) -> Result<Given, Fail> {
+    let files = files(rt.alloc(), run)?;
+    run_over(rt, run.words, files, run.failing_call, run.failing_write)
 }
 
-fn run_over<R: Abort + AllocGlobal>(
+pub fn run_over<R: Abort + AllocGlobal>(
     rt: &R,
-    words: &[String],
+    text: &str,
     files: Vec<(String, Vec<u8>)>,
     failing_call: u32,
     failing_write: u32,
 ) -> Result<Given, Fail> {
     let alloc = rt.alloc();
+    let words = words(alloc, text)?;
     assert!(rt; is_folder(&files));
+    let step = if failing_write == 0 { 65_536 } else { 10 };
     let mut folder = MemoryFolder::new(files, vec![in alloc; failing_call]?);
     let mut keeper = MemoryKeeper::new(alloc, None, Vec::new(alloc));
-    let mut sink = MemorySink::new(alloc, 10, vec![in alloc; failing_write]?);
-    let ended = host_run(alloc, words, &mut folder, &mut keeper, &mut sink);
+    let mut sink = MemorySink::new(alloc, step, vec![in alloc; failing_write]?);
+    let ended = host_run(alloc, &words, &mut folder, &mut keeper, &mut sink);
     let written = Vec::from_slice(alloc, sink.written())?;
     Ok(Given { ended, written })
 }
 
-fn report(alloc: Global, log: &str, page: &str) -> Result<Vec<u8>, AllocError> {
-    let mut report = Vec::new(alloc);
-    for part in [HEAD, log, "document\n", page, TAIL] {
-        report.extend_from_slice(part.as_bytes())?;
-    }
-    Ok(report)
-}
-
-#[test]
-fn the_first_example_gives_its_report(rt: HostRuntime) -> Result<(), Fail> {
-    let given = run_of(&rt, FIRST)?;
-    assert_eq!(rt; given.ended.status, 0);
-    assert!(rt; given.ended.fault.is_none());
-    assert_eq!(rt; given.ended.journal.len(), 25);
-    let report =
-        b"pagehost 1\naddress http://example.com/\nscript a.user.js started\nlog a.user.js Hi\ndocument\n<html><head><title>Hi</title></head><body></body></html>\nstore\n{\"form\":1,\"stores\":[]}\nend 0 tasks 4\n";
-    assert_eq!(rt; given.written.as_slice(), report.as_slice());
-    Ok(())
-}
-
-fn refuses<R: Abort + AllocGlobal>(rt: &R, run: Run, status: u8) -> Result<(), Fail> {
+/// The run ends with this status, and writes nothing.
+pub fn refuses<R: Abort + AllocGlobal>(rt: &R, run: Run<'_>, status: u8) -> Result<(), Fail> {
     let given = run_of(rt, run)?;
     assert_eq!(rt; given.ended.status, status);
     assert!(rt; given.written.is_empty());
     Ok(())
+}
+
+/// The run writes the report of these parts.
+pub fn reports<R: Abort + AllocGlobal>(
+    rt: &R,
+    run: Run<'_>,
+    parts: &[&str],
+) -> Result<Given, Fail> {
+    let given = run_of(rt, run)?;
+    has_written(rt, &given, parts)?;
+    Ok(given)
+}
+
+pub fn has_written<R: Abort + AllocGlobal>(
+    rt: &R,
+    given: &Given,
+    parts: &[&str],
+) -> Result<(), Fail> {
+    assert_eq!(rt; given.ended.status, 0);
+    assert!(rt; given.ended.fault.is_none());
+    let report = joined(rt.alloc(), parts)?;
+    assert_eq!(rt; given.written.as_slice(), report.as_str().as_bytes());
+    Ok(())
+}
+
+pub const START: &str = "pagehost 1\naddress http://example.com/\n";
+
+pub const STORE: &str = "\nstore\n{\"form\":1,\"stores\":[]}\nend 0 tasks ";
+
+#[test]
+fn the_first_example_gives_its_report(rt: HostRuntime) -> Result<(), Fail> {
+    let run = first(&[("a.user.js", "a", TITLE_LOG)]);
+    let given = reports(
+        &rt,
+        run,
+        &[
+            "pagehost 1\naddress http://example.com/\nscript a.user.js started\nlog a.user.js Hi\ndocument\n<html><head><title>Hi</title></head><body></body></html>\nstore\n{\"form\":1,\"stores\":[]}\nend 0 tasks 4\n",
+        ],
+    )?;
+    assert_eq!(rt; given.ended.journal.len(), 25);
+    refuses(&rt, Run { page: "", ..run }, 3)?;
+    refuses(
+        &rt,
+        Run {
+            words: "run http://example.com/x",
+            ..run
+        },
+        14,
+    )
 }
 
 #[test]
@@ -138,24 +184,31 @@ fn words_are_read_by_their_grammar(rt: HostRuntime) -> Result<(), Fail> {
         ("gen 05", 2),
         ("gen 5000", 14),
         ("run http://example.com/ --trace", 14),
-        ("run http://example.com/x", 14),
         ("run http://.com/", 14),
         ("run http://Example.com/", 14),
     ] {
-        refuses(&rt, Run { words, ..FIRST }, status)?;
+        refuses(
+            &rt,
+            Run {
+                words,
+                ..first(&[])
+            },
+            status,
+        )?;
     }
     Ok(())
 }
 
 #[test]
 fn faults_of_the_outside_are_told(rt: HostRuntime) -> Result<(), Fail> {
+    let run = first(&[("a.user.js", "a", TITLE_LOG)]);
     for (failing_call, failing_write, status) in [(1, 0, 6), (2, 0, 6), (3, 0, 6), (0, 1, 8)] {
         refuses(
             &rt,
             Run {
                 failing_call,
                 failing_write,
-                ..FIRST
+                ..run
             },
             status,
         )?;
@@ -164,7 +217,7 @@ fn faults_of_the_outside_are_told(rt: HostRuntime) -> Result<(), Fail> {
         &rt,
         Run {
             failing_write: 2,
-            ..FIRST
+            ..run
         },
     )?;
     assert_eq!(rt; given.ended.status, 8);
@@ -173,159 +226,86 @@ fn faults_of_the_outside_are_told(rt: HostRuntime) -> Result<(), Fail> {
     Ok(())
 }
 
-/// So many letters between a front and an end.
-fn letters(alloc: Global, front: &str, count: usize, end: &str) -> Result<String, AllocError> {
-    let mut text = String::from_str(alloc, front)?;
-    for _ in 0..count {
-        text.push('x')?;
+/// The page whose body has these script elements.
+pub fn page_with(alloc: Global, scripts: &[&str]) -> Result<String, AllocError> {
+    let mut page = joined(
+        alloc,
+        &["<html><head><title>Hi</title></head><body><p id=\"p\"></p><div id=\"d\"></div>"],
+    )?;
+    for script in scripts {
+        page.push_str("<script>")?;
+        page.push_str(*script)?;
+        page.push_str("</script>")?;
     }
-    text.push_str(end)?;
-    Ok(text)
+    page.push_str("</body></html>")?;
+    Ok(page)
 }
 
-/// A run whose host, title and quoted text have so many letters ends with this status.
-fn sized<R: Abort + AllocGlobal>(
-    rt: &R,
-    host: usize,
-    title: usize,
-    quoted: usize,
-    status: u8,
-) -> Result<(), Fail> {
-    let alloc = rt.alloc();
-    let page = letters(
-        alloc,
-        "<html><head><title>",
-        title,
-        "</title></head><body></body></html>",
-    )?;
-    let lines = letters(alloc, "GM_log(\"", quoted, "\");\n")?;
-    let mut words = Vec::new(alloc);
-    words.push(String::from_str(alloc, "run")?)?;
-    words.push(letters(alloc, "http://", host, "/")?)?;
-    let mut files = Vec::new(alloc);
-    files.push(file(alloc, "a.user.js", BLOCK, lines.as_str())?)?;
-    files.push(file(alloc, "page.html", page.as_str(), "")?)?;
-    let given = run_over(rt, &words, files, 0, 0)?;
-    assert_eq!(rt; given.ended.status, status);
-    Ok(())
-}
+const EIGHT: [(&str, &str, &str); 9] = [
+    ("h.user.js", "h", ""),
+    ("a.user.js", "a", ""),
+    ("g.user.js", "g", ""),
+    ("b.user.js", "b", ""),
+    ("f.user.js", "f", ""),
+    ("c.user.js", "c", ""),
+    ("e.user.js", "e", ""),
+    ("d.user.js", "d", ""),
+    ("i.user.js", "i", ""),
+];
 
 #[test]
-fn sizes_are_bytes_of_the_whole(rt: HostRuntime) -> Result<(), Fail> {
-    for (host, title, quoted, status) in [
-        (245, 1, 1, 0),
-        (246, 1, 1, 14),
-        (1, 202, 1, 0),
-        (1, 203, 1, 14),
-        (1, 1, 947, 0),
-        (1, 1, 948, 14),
-    ] {
-        sized(&rt, host, title, quoted, status)?;
-    }
+fn nine_userscripts_are_too_many(rt: HostRuntime) -> Result<(), Fail> {
+    let given = run_of(&rt, first(&EIGHT))?;
+    assert_eq!(rt; given.ended.status, 12);
+    assert!(rt; given.ended.fault == Some(HostFault::TooManyScripts(9)));
+    assert!(rt; given.written.is_empty());
+    let _ = reports(
+        &rt,
+        first(&EIGHT[..8]),
+        &[
+            START,
+            "script a.user.js started\nscript b.user.js started\nscript c.user.js started\nscript d.user.js started\n",
+            "script e.user.js started\nscript f.user.js started\nscript g.user.js started\nscript h.user.js started\ndocument\n",
+            PAGE,
+            STORE,
+            "11\n",
+        ],
+    )?;
+    let _ = reports(&rt, first(&[]), &[START, "document\n", PAGE, STORE, "3\n"])?;
     Ok(())
 }
 
 #[test]
 fn other_forms_are_not_built_yet(rt: HostRuntime) -> Result<(), Fail> {
-    refuses(&rt, Run { page: "", ..FIRST }, 3)?;
-    refuses(
-        &rt,
-        Run {
-            name: "events.txt",
-            ..FIRST
-        },
-        14,
-    )?;
-    refuses(
-        &rt,
-        Run {
-            name: "a.js",
-            page: "",
-            ..FIRST
-        },
-        14,
-    )?;
+    let five = page_with(rt.alloc(), &["", "", "", "", ""])?;
     for page in [
+        five.as_str(),
         "<html></html>",
         "<html><head><title></title></head><body></body></html>",
         "<html><head><title>a  b</title></head><body></body></html>",
         "<html><head><title>a </title></head><body></body></html>",
         "<html><head><title>Hi</title></head><body></body></html>\n",
+        "<html><head><title>Hi</title></head><body><script>\n</script></body></html>",
     ] {
-        refuses(&rt, Run { page, ..FIRST }, 14)?;
+        refuses(&rt, Run { page, ..first(&[]) }, 14)?;
     }
     for lines in [
         "GM_log(1000);\n",
         "GM_log(01);\n",
         "GM_log(7);",
         "GM_log(\"-\");\n",
-        "GM_log(1 + 2);\n",
+        "GM_log(1+2);\n",
+        "console.log(1);\n",
         "\n",
     ] {
-        refuses(&rt, Run { lines, ..FIRST }, 14)?;
+        refuses(&rt, first(&[("a.user.js", "a", lines)]), 14)?;
     }
-    Ok(())
-}
-
-/// The units of fuel of the last entry.
-fn units_in(journal: &Journal) -> u32 {
-    let mut last = 0;
-    for mark in journal.marks() {
-        if let Mark::Leave(_, _, units) = mark {
-            last = *units;
-        }
-    }
-    last
-}
-
-/// The run logs this, and uses these units of fuel.
-fn logs<R: Abort + AllocGlobal>(rt: &R, run: Run, log: &str, units: u32) -> Result<(), Fail> {
-    let given = run_of(rt, run)?;
-    assert_eq!(rt; given.ended.status, 0);
-    assert_eq!(rt; units_in(&given.ended.journal), units);
-    let report = report(rt.alloc(), log, run.page)?;
-    assert_eq!(rt; given.written.as_slice(), report.as_slice());
-    Ok(())
-}
-
-#[test]
-fn lines_are_logged_and_charged(rt: HostRuntime) -> Result<(), Fail> {
-    for (lines, log, units) in [
-        ("GM_log(document.title);\n", "log a.user.js Hi\n", 9),
-        ("GM_log(7);\n", "log a.user.js 7\n", 6),
-        (
-            "GM_log(0);\nGM_log(999);\n",
-            "log a.user.js 0\nlog a.user.js 999\n",
-            12,
-        ),
-        (
-            "GM_log(\"\");\nGM_log(\" x\ty \");\n",
-            "log a.user.js \nlog a.user.js  x\ty \n",
-            11,
-        ),
-        ("", "", 0),
-    ] {
-        logs(&rt, Run { lines, ..FIRST }, log, units)?;
-    }
-    let page = "<html><head><title>a\tb c</title></head><body></body></html>";
-    logs(&rt, Run { page, ..FIRST }, "log a.user.js a b c\n", 9)
-}
-
-#[test]
-fn a_name_is_escaped(rt: HostRuntime) -> Result<(), Fail> {
-    let given = run_of(
+    refuses(&rt, first(&[("events.txt", "a", "")]), 14)?;
+    refuses(
         &rt,
-        Run {
-            name: "a\\b\nc\rd.user.js",
-            lines: "",
-            ..FIRST
-        },
-    )?;
-    assert_eq!(rt; given.ended.status, 0);
-    let report =
-        b"pagehost 1\naddress http://example.com/\nscript a\\\\b\\nc\\rd.user.js started\ndocument\n<html><head><title>Hi</title></head><body></body></html>\nstore\n{\"form\":1,\"stores\":[]}\nend 0 tasks 4\n";
-    assert_eq!(rt; given.written.as_slice(), report.as_slice());
-    Ok(())
+        first(&[("a.user.js", "a", ""), ("b.user.js", "a", "")]),
+        14,
+    )
 }
 
 #[test]
@@ -354,6 +334,10 @@ fn faults_have_lines(rt: HostRuntime) -> Result<(), Fail> {
         (HostFault::ReadFault, "read fault"),
         (HostFault::WriteFault, "write fault"),
         (HostFault::NoMemory, "no memory"),
+        (
+            HostFault::TooManyScripts(4_294_967_295),
+            "too many userscripts: 4294967295",
+        ),
         (HostFault::NotYet, "not built yet"),
     ] {
         assert_eq!(rt; fault_line(rt.alloc(), &fault)?.as_str(), line);

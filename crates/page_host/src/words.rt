@@ -5,7 +5,7 @@ ghost use Rattle.std.specs.Prelude.{◌≡◌, ◌≢◌, ◌≤◌, ◌↔◌, 
 ghost use Rattle.std.specs.List.{after_first, before_first, position_or_len};
 ghost use Rattle.std.specs.String.{string_bytes};
 
-use crate::bytes::number_in;
+use small_forms::number_in;
 
 /// What the words of the command line ask for.
 #[derive(Clone, Copy)]

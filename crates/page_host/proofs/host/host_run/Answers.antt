@@ -1,8 +1,9 @@
-use Rattle.std.proofs.Common.{◌≡◌, ap, map, inr, ℕ, List, Err}
+use Rattle.std.proofs.Common.{ap, map, inr, Err}
 use Rattle.std.specs.String.{string_bytes}
 use Rattle.door.specs.Record.{Record}
 use Rattle.outside.specs.Causes.{Rose}
 use Rattle.outside.specs.Contents.{Appends, AppendsPrefix}
+use Rattle.page_host.proofs.Begun.{empty_right, whole_right}
 use Rattle.page_host.proofs.Prepared.{err_refused, err_complete, ok_refused, ok_complete, with_report, other_than}
 use Rattle.page_host.proofs.host.host_run.Goals as goal
 
@@ -14,6 +15,9 @@ pub returns-in-Err-clause-complete : goal.returns-in-Err-clause-complete
 returns-in-Err-clause-complete g c =
     err_complete (map string_bytes c.args.words.now) (g.F.Folder.files c.args.folder.now) c.in-Err.fault c.status.result (Rose (g.F.Folder.faults c.args.folder.now) (g.F.Folder.faults c.prepare.new.folder))
     (Rose (g.S.Sink.faults c.args.out.now) (g.S.Sink.faults c.args.out.now)) c.status.ensures c.in-Err.ensures.refused (λ is. c.in-Err.ensures.unwritten (ap (λ e. Err e) is)) (λ is. c.in-Err.ensures.failed (ap (λ e. Err e) is))
+
+pub returns-in-Err-clause-sofar : goal.returns-in-Err-clause-sofar
+returns-in-Err-clause-sofar g c = λ _. empty_right (map string_bytes c.args.words.now) (g.F.Folder.files c.args.folder.now) c.new.result.marks (ap (λ (j : Record). j.marks) c.new.ensures)
 
 pub returns-in-Ok-clause-refused : goal.returns-in-Ok-clause-refused
 returns-in-Ok-clause-refused g c =
@@ -40,3 +44,9 @@ returns-in-Ok-clause-short g c eleven =
     inr (with_report (map string_bytes c.args.words.now) (g.F.Folder.files c.args.folder.now) c.in-Ok.made.journal.marks c.deliver.result.journal.marks c.in-Ok.made.report.items
     (λ bytes. AppendsPrefix (g.S.Sink.written c.args.out.now) (g.S.Sink.written c.deliver.new.out) bytes) (ap (λ (j : Record). j.marks) c.deliver.ensures.journal) c.in-Ok.ensures.right
     (c.deliver.ensures.cut (other_than c.deliver.result.status 10 eleven)))
+
+pub returns-in-Ok-clause-sofar : goal.returns-in-Ok-clause-sofar
+returns-in-Ok-clause-sofar g c =
+    λ _.
+    whole_right (map string_bytes c.args.words.now) (g.F.Folder.files c.args.folder.now) c.in-Ok.made.journal.marks c.deliver.result.journal.marks c.in-Ok.made.report.items (ap (λ (j : Record). j.marks) c.deliver.ensures.journal)
+    c.in-Ok.ensures.right c.in-Ok.ensures.acts

@@ -1,8 +1,13 @@
-use Rattle.std.proofs.Common.{arith, length-append}
-use Rattle.page_host.proofs.Pieces.{lines_short}
+use Rattle.std.proofs.Common.{◌≤◌, ◌∙◌, refl, sym, subst, List, ℕ, length}
+use Rattle.small_eval.specs.Turns.{AreUserscripts}
+use Rattle.page_host.specs.Run.{setups_of}
+use Rattle.page_host.proofs.Playing.{all_solo, texts_are, texts_few, userscript_zone}
 use Rattle.page_host.proofs.play.play.Goals as goal
 
-pub load-requires : goal.load-requires
-load-requires c =
-    let short = lines_short c.in_ok-told.told c.args.lines.now in
-    rw (c.in_ok-run_script.ensures, c.in_ok-make_ready.ensures, c.in_ok-build_page.ensures, c.new-journal.ensures) (simp length-append (omega arith))
+pub play-requires-clause-scripts : goal.play-requires-clause-scripts
+play-requires-clause-scripts c =
+    let P : List (List ℕ) → Type 0 = λ texts. AreUserscripts texts × (length texts ≤ 8) in
+    subst P (sym (c.as_slice.ensures.value ∙ c.in_ok-texts.ensures)) (texts_are c.args.scripts.now c.requires.scripts, texts_few c.args.scripts.now 8 c.requires.few)
+
+pub returns-clause-acts : goal.returns-clause-acts
+returns-clause-acts c = λ address. all_solo address c.in_ok-journal.field-0.journal.marks c.in_ok-journal.ensures.sound.genuine (c.in_ok-journal.ensures.idle (setups_of address) refl (userscript_zone address))

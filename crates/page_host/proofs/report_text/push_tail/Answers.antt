@@ -1,5 +1,5 @@
 use Rattle.std.proofs.Common.{◌∙◌, ap, ◌++◌}
-use Rattle.page_host.proofs.Pieces.{five_pieces}
+use Rattle.page_host.proofs.Adding.{five_pieces}
 use Rattle.page_host.proofs.report_text.push_tail.Goals as goal
 
 pub returns : goal.returns

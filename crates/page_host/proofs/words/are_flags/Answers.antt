@@ -1,4 +1,4 @@
-use Rattle.std.proofs.Common.{◌≡◌, ◌∙◌, sym, ap, true, refl}
+use Rattle.std.proofs.Common.{◌≡◌, sym, true, refl}
 use Rattle.std.specs.String.{string_bytes}
 use Rattle.page_host.specs.Words.{is_plain}
 use Rattle.page_host.proofs.Commands.{filter_about, not_empty}

@@ -1,5 +1,4 @@
-use Rattle.std.proofs.Common.{◌≡◌, ◌∙◌, sym, ap, true, refl, ◌<◌, length}
-use Rattle.std.specs.Option.{option_to_list, option_copied}
+use Rattle.std.proofs.Common.{◌≡◌, ◌∙◌, sym, true, refl}
 use Rattle.std.specs.String.{string_bytes}
 use Rattle.page_host.specs.Words.{is_plain}
 use Rattle.page_host.proofs.Commands.{filter_about, not_single, some_length}

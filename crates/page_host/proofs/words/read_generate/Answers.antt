@@ -1,4 +1,4 @@
-use Rattle.std.proofs.Common.{◌≡◌, ◌∙◌, sym, ap, refl, arith, codes, ◌∷◌}
+use Rattle.std.proofs.Common.{◌∙◌, sym, ap, arith, codes, ◌∷◌}
 use Rattle.std.specs.String.{string_bytes}
 use Rattle.std.proofs.lemmas.Fmt.{decimal_injective}
 use Rattle.page_host.proofs.Commands.{one_word, no_count}

@@ -1,4 +1,4 @@
-use Rattle.std.proofs.Common.{◌≡◌, ◌∙◌, sym, ap, refl, arith, map, take, drop, ◌+◌, length-drop}
+use Rattle.std.proofs.Common.{◌∙◌, sym, ap, arith, map, drop, ◌+◌, length-drop}
 use Rattle.std.proofs.lemmas.List.{take-map, drop-map, take_all}
 use Rattle.std.specs.String.{string_bytes}
 use Rattle.page_host.proofs.words.split_at_dashes.Goals as goal

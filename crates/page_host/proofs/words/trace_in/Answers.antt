@@ -1,4 +1,4 @@
-use Rattle.std.proofs.Common.{◌≡◌, ◌≢◌, ◌∙◌, sym, ap, true, false, refl, inl, inr, codes, ◌∷◌, [], ◌++◌, if◌then◌else◌, add-one, List, ℕ}
+use Rattle.std.proofs.Common.{◌≡◌, ◌∙◌, sym, ap, true, inl, inr, add-one}
 use Rattle.std.specs.String.{string_bytes}
 use Rattle.page_host.specs.Words.{begins_with_dash}
 use Rattle.page_host.proofs.Commands.{filter_about, filter_more, no_flags, flags_more, false_true}

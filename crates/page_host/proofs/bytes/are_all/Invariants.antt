@@ -1,6 +1,0 @@
-use Rattle.std.proofs.Common.{◌≡◌, drop}
-use Rattle.page_host.specs.Bytes.{are_in}
-use Rattle.page_host.proofs.bytes.are_all.Given as goal
-
-abbrev pub invariant-loop-byte : goal.invariant-loop-byte
-invariant-loop-byte l = are_in l.class l.bytes ≡ are_in l.class (drop l.byte-index l.bytes)

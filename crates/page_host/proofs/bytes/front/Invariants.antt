@@ -1,6 +1,0 @@
-use Rattle.std.proofs.Common.{take, IsTrue}
-use Rattle.page_host.specs.Bytes.{are_in}
-use Rattle.page_host.proofs.bytes.front.Given as goal
-
-abbrev pub invariant-loop-at : goal.invariant-loop-at
-invariant-loop-at l = IsTrue (are_in l.class (take l.at l.bytes))

@@ -1,0 +1,35 @@
+-- The userscripts of a folder as they are read; this project's own.
+use Rattle.std.specs.Prelude.{◌≡◌, ℕ, List, [], ◌∷◌, map, Some}
+use Rattle.outside.specs.Contents.{AreDistinct, Files, content}
+use Rattle.small_forms.specs.Scripts.{IsUserscript}
+use Rattle.small_forms.specs.declared.script.Line.{Line}
+use Rattle.small_forms.specs.declared.userscript.Userscript.{Userscript}
+
+-- the names that their metadata blocks say
+abbrev pub names_in : List Userscript → List (List ℕ)
+names_in scripts = map (λ (script : Userscript). script.name) scripts
+
+-- their whole texts
+abbrev pub texts_in : List Userscript → List (List ℕ)
+texts_in scripts = map (λ (script : Userscript). script.text) scripts
+
+-- a userscript of the form that is read
+abbrev pub IsScript : Userscript → Type 0
+IsScript script = (lines : List Line) × IsUserscript script.text script.name lines
+
+-- each of them is one
+abbrev pub AreScripts : List Userscript → Type 0
+AreScripts [] = Unit {0}
+AreScripts (script ∷ scripts) = IsScript script × AreScripts scripts
+
+-- the files of these names hold the texts of these userscripts, one by one
+abbrev pub AreHeld : Files → List (List ℕ) → List Userscript → Type 0
+AreHeld files [] [] = Unit {0}
+AreHeld files (file ∷ names) (script ∷ scripts) = (content files file ≡ Some script.text) × AreHeld files names scripts
+AreHeld files names scripts = ⊥
+
+-- the files of these names are these userscripts, no two of which say the same name
+pub record AreRead (files : Files) (names : List (List ℕ)) (scripts : List Userscript) : Type 0 where
+  pub held : AreHeld files names scripts
+  pub scripts_are : AreScripts scripts
+  pub distinct : AreDistinct (names_in scripts)

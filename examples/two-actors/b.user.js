@@ -1,0 +1,5 @@
+// ==UserScript==
+// @name reader
+// @grant GM_log
+// ==/UserScript==
+GM_log(document.title);
