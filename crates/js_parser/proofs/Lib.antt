@@ -1,0 +1,15 @@
+pub mod Samples
+pub mod Lists
+pub mod Forms
+pub mod ObjectMembers
+pub mod Targets
+pub mod UpdateTargets
+pub mod Stmts
+pub mod Firsts
+pub mod Levels
+pub mod Tops
+pub mod Widening
+pub mod Faults
+pub mod Whole
+pub mod Seen
+pub mod Turns

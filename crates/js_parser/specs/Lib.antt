@@ -1,0 +1,6 @@
+pub mod Expressions
+pub mod Statements
+pub mod Answers
+pub mod Sets
+pub mod Reads
+pub mod Finishes
