@@ -1,0 +1,5 @@
+pub mod Numbers
+pub mod Numerals
+pub mod Operators
+pub mod Prims
+pub mod Reading
