@@ -3,3 +3,4 @@ pub mod Numerals
 pub mod Operators
 pub mod Prims
 pub mod Reading
+pub mod Spelled

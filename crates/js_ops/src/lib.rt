@@ -4,6 +4,7 @@
 
 mod arithmetic;
 mod fault;
+mod laws;
 mod numeral;
 mod one_operand;
 mod prim;
@@ -12,6 +13,7 @@ mod tests;
 mod two_operands;
 
 pub use fault::OpFault;
+pub use laws::numbers_are_spelled_by_the_grammar;
 pub use one_operand::unary;
 pub use prim::{Prim, same, to_key, to_text, truth};
 pub use two_operands::binary;

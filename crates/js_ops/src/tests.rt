@@ -86,18 +86,18 @@ fn numbers_are_reckoned_with(rt: HostRuntime) -> Result<(), Fail> {
 fn texts_are_joined(rt: HostRuntime) -> Result<(), Fail> {
     let alloc = rt.alloc();
     for (a, b, answer) in [
-        (Row::Str("a"), Row::Number(1), Ok("a1")),
-        (Row::Number(-7), Row::Str(""), Ok("-7")),
-        (Row::Str("a"), Row::Undefined, Ok("aundefined")),
-        (Row::Null, Row::Str("a"), Ok("nulla")),
-        (Row::Bool(true), Row::Str("é"), Ok("trueé")),
-        (Row::Str("1"), Row::Str("2"), Ok("12")),
+        (Row::Str("a"), Row::Number(1), Ok(Row::Str("a1"))),
+        (Row::Number(-7), Row::Str(""), Ok(Row::Str("-7"))),
+        (Row::Str("a"), Row::Undefined, Ok(Row::Str("aundefined"))),
+        (Row::Null, Row::Str("a"), Ok(Row::Str("nulla"))),
+        (Row::Bool(true), Row::Str("é"), Ok(Row::Str("trueé"))),
+        (Row::Str("1"), Row::Str("2"), Ok(Row::Str("12"))),
         (Row::Bool(true), Row::Number(1), Err(OpFault::Kind)),
         (Row::Undefined, Row::Number(1), Err(OpFault::Kind)),
         (Row::Null, Row::Bool(false), Err(OpFault::Kind)),
     ] {
         let told = binary(alloc, BinaryOp::Add, &prim(alloc, a)?, &prim(alloc, b)?);
-        assert_eq!(rt; row_of(&told), answer.map(|t| Row::Str(t)), "{a:?} + {b:?}");
+        assert_eq!(rt; row_of(&told), answer, "{a:?} + {b:?}");
     }
     let mut whole = Text::of(alloc, "ab")?;
     for _ in 0..17 {
