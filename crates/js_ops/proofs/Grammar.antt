@@ -67,9 +67,9 @@ after-blank (c ∷ cs) blank = rw (blank_no_digit c (all_split (is_blank c) (lis
 between : (minus : Bool) (d : ℕ) (ds after : List ℕ) → list_all is_ascii_digit (d ∷ ds) ≡ true → list_all is_blank after ≡ true → digits_spelled minus (d ∷ ds ++ after) ≡ Some (signed minus (value_after 0 (d ∷ ds)))
 between minus d ds after digits blank =
     let front : front_while is_ascii_digit ((d ∷ ds) ++ after) ≡ d ∷ ds =
-      front-passed is_ascii_digit (d ∷ ds) after digits ∙ ap (λ (xs : List ℕ). (d ∷ ds) ++ xs) (front-blank after blank) ∙ append-nil (d ∷ ds) in
+    front-passed is_ascii_digit (d ∷ ds) after digits ∙ ap (λ (xs : List ℕ). (d ∷ ds) ++ xs) (front-blank after blank) ∙ append-nil (d ∷ ds) in
     let rest : after_while is_ascii_digit ((d ∷ ds) ++ after) ≡ after =
-      after-passed is_ascii_digit (d ∷ ds) after digits ∙ after-blank after blank in
+    after-passed is_ascii_digit (d ∷ ds) after digits ∙ after-blank after blank in
     ap (λ (xs : List ℕ). digits_between minus xs (after_while is_ascii_digit ((d ∷ ds) ++ after))) front
     ∙ ap (λ (xs : List ℕ). digits_between minus (d ∷ ds) xs) rest
     ∙ ap (λ (b : Bool). cond b (Some (signed minus (value_after 0 (d ∷ ds)))) None) blank
@@ -128,6 +128,7 @@ parts_from_spelled t n told = parted (after_while is_blank t) refl told
         let same : c ≡ 45 = grind (arith, nat_tests) in
         with_digits t cs n true (rest ∙ ap (λ (x : ℕ). x ∷ cs) same) h
     signs c cs false minus rest h = with_digits t (c ∷ cs) n false rest h
+
     parted : (u : List ℕ) → after_while is_blank t ≡ u → signed_spelled u ≡ Some n → Spells t n
     parted [] rest h = absurd (cc)
     parted (c ∷ cs) rest h = signs c cs (c == 45) refl rest h

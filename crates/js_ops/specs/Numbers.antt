@@ -1,6 +1,6 @@
 -- The numbers of a script (ECMAScript 6.1.6.1). This project's own: they are whole, from -(2^53 - 1) to 2^53 - 1, so
 -- there is no fraction, no infinity, no NaN and no -0.
-use Rattle.std.specs.Prelude.{ℕ, ◌-◌, ◌^◌, Bool, not, nat_le, ◌==◌, if◌then◌else◌, Result, Ok, Err, ℤ, ◌+ℤ◌, ◌-ℤ◌, ◌*ℤ◌, neg_ℤ, int_div, int_rem, unsigned_abs}
+use Rattle.std.specs.Prelude.{◌≡◌, ◌-◌, ◌^◌, Bool, true, false, nat_le, ◌==◌, if◌then◌else◌, Result, Ok, Err, ℤ, ◌+ℤ◌, ◌-ℤ◌, ◌*ℤ◌, neg_ℤ, int_div, int_rem, unsigned_abs}
 use Rattle.js_ops.specs.declared.fault.OpFault.{OpFault}
 use Rattle.js_ops.specs.declared.fault.OpFault.TheVariants.{Range}
 use Rattle.js_ops.specs.declared.prim.Prim.{Prim}
@@ -46,3 +46,9 @@ quotient a b =
 -- 6.1.6.1.1 Number::unaryMinus; this project's own: of 0 it is 0
 abbrev pub opposite : ℤ → Answer
 opposite n = number (neg_ℤ n)
+
+-- q times the divisor is the dividend
+pub record IsQuotient (a b q : ℤ) : Type 0 where
+  pub some : is_zero b ≡ false
+  pub in_range : is_number q ≡ true
+  pub exact : q *ℤ b ≡ a

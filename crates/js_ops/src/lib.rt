@@ -13,7 +13,7 @@ mod tests;
 mod two_operands;
 
 pub use fault::OpFault;
-pub use laws::numbers_are_spelled_by_the_grammar;
+pub use laws::{numbers_are_spelled_by_the_grammar, quotients_are_exact};
 pub use one_operand::unary;
 pub use prim::{Prim, same, to_key, to_text, truth};
 pub use two_operands::binary;
