@@ -1,11 +1,11 @@
 -- A quotient is exact.
-use Rattle.std.proofs.Common.{◌≡◌, ◌↔◌, ℕ, zero, suc, ◌+◌, ◌*◌, ◌/◌, ◌%◌, ◌<◌, Bool, true, false, cond, ◌==◌, Ok, Err, ℤ, pos, negsuc, neg_ℤ, nat_abs, ◌*ℤ◌, ◌+ℤ◌, refl, sym, ap, ◌∙◌, rules, arith}
-use Rattle.std.specs.Prelude.{int_div, int_rem, unsigned_abs}
+use Rattle.std.proofs.Common.{◌≡◌, ◌↔◌, ℕ, zero, suc, ◌+◌, ◌*◌, ◌/◌, ◌%◌, ◌<◌, Bool, true, false, cond, Ok, Err, ℤ, pos, negsuc, neg_ℤ, nat_abs, ◌*ℤ◌, ◌+ℤ◌, refl, sym, ap, ◌∙◌, arith}
+use Rattle.std.specs.Prelude.{int_div, int_rem}
 use Rattle.std.proofs.Math.Nat.{mul-mod_left}
 use Rattle.std.proofs.lemmas.Bool.Decides.{nat_tests}
 use Rattle.std.proofs.lemmas.Int.{ints, quot-rem}
 use Rattle.std.proofs.lemmas.Nat.{div-mul-add}
-use Rattle.js_ops.specs.Numbers.{Answer, IsQuotient, is_number, is_zero, number, quotient}
+use Rattle.js_ops.specs.Numbers.{Answer, IsQuotient, is_number, is_zero, quotient}
 use Rattle.js_ops.specs.declared.fault.OpFault.TheVariants.{Range}
 use Rattle.js_ops.specs.declared.prim.Prim.TheVariants.{Number}
 

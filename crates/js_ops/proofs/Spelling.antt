@@ -1,10 +1,10 @@
 -- How a text that spells a number is read on by one scalar.
-use Rattle.std.proofs.Common.{◌≡◌, ◌≢◌, ℕ, zero, suc, ◌+◌, ◌-◌, ◌*◌, ◌^◌, ◌<◌, ◌≤◌, Bool, true, false, cond, nat_le, nat_lt, ◌&&◌, ◌==◌, List, [], ◌∷◌, ◌++◌, append-nil, Some, None, Result, Ok, Err, ℤ, pos, neg_ℤ, refl, sym, ap, ◌∙◌, rules, arith}
+use Rattle.std.proofs.Common.{◌≡◌, ◌≢◌, ℕ, zero, suc, ◌+◌, ◌-◌, ◌*◌, ◌^◌, ◌<◌, ◌≤◌, Bool, true, false, cond, ◌==◌, List, [], ◌∷◌, ◌++◌, append-nil, Some, None, Err, ℤ, refl, sym, ap, ◌∙◌, arith}
 use Rattle.std.specs.Char.{is_ascii_digit}
 use Rattle.std.specs.List.{list_all}
 use Rattle.std.proofs.lemmas.Bool.Decides.{nat_tests}
 use Rattle.js_ops.specs.Numbers.{Answer, number}
-use Rattle.js_ops.specs.Numerals.{after_while, digits_between, digits_spelled, front_while, is_blank, number_spelled, signed, signed_spelled, value_after}
+use Rattle.js_ops.specs.Numerals.{after_while, digits_between, digits_spelled, front_while, is_blank, number_spelled, signed, value_after}
 use Rattle.js_ops.specs.Operators.{spelled}
 use Rattle.js_ops.specs.Reading.{answer_from}
 use Rattle.js_ops.specs.declared.fault.OpFault.TheVariants.{Range}

@@ -1,5 +1,5 @@
 -- The operators' table: one row for each operator, on primitive values (ECMAScript 13.5, 13.7, 13.8, 13.10, 13.11).
-use Rattle.std.specs.Prelude.{◌≡◌, ℕ, ◌+◌, ◌⊎◌, nat_lt, Bool, not, if◌then◌else◌, List, ◌++◌, Option, Some, None, Result, Ok, Err, ⊤, ℤ, pos}
+use Rattle.std.specs.Prelude.{◌≡◌, ℕ, ◌+◌, ◌⊎◌, nat_lt, Bool, not, if◌then◌else◌, List, ◌++◌, Option, Some, None, Ok, Err, ⊤, ℤ, pos}
 use Rattle.std.specs.Cmp.Lexicographic.{slice_cmp}
 use Rattle.std.specs.Ordering.{int_cmp, nat_cmp, is_lt, is_le, is_gt, is_ge}
 use Rattle.std.specs.declared.cmp.Ordering.{Ordering}
@@ -12,7 +12,6 @@ use Rattle.base_text.specs.declared.text.TheConstants.{TEXT_LIMIT}
 use Rattle.js_ops.specs.Numbers.{Answer, difference, number, opposite, product, quotient, remainder, sum}
 use Rattle.js_ops.specs.Numerals.{number_spelled}
 use Rattle.js_ops.specs.Prims.{is_equal, is_same, text_of, truth_of, type_of}
-use Rattle.js_ops.specs.declared.fault.OpFault.{OpFault}
 use Rattle.js_ops.specs.declared.fault.OpFault.TheVariants.{Kind, NoMemory, Range, TooLong}
 use Rattle.js_ops.specs.declared.prim.Prim.{Prim}
 use Rattle.js_ops.specs.declared.prim.Prim.TheVariants.{Undefined, Null, Bool as Boolean, Number, Str}
