@@ -1,6 +1,6 @@
 -- The UTF-8 of what is printed, part by part.
 use Rattle.std.proofs.Common.{◌≡◌, ◌∙◌, ap, ap₂, sym, refl, ℕ, zero, suc, ◌+◌, ◌<◌, ◌≤◌, Bool, true, false, inl, inr, List, [], ◌∷◌, ◌++◌, append_assoc, append-nil, length, get_or, take, arith, Some}
-use Rattle.std.specs.Prelude.{codes, Result, OnOk, encode_utf8_all, slice_get, if◌then◌else◌, ◌==◌}
+use Rattle.std.specs.Prelude.{codes, Result, OnOk, slice_get, if◌then◌else◌, ◌==◌}
 use Rattle.std.specs.List.{flat_map}
 use Rattle.std.proofs.lemmas.Bool.{cases_lt}
 use Rattle.std.proofs.lemmas.Result.{on_ok_weaker}

@@ -1,4 +1,5 @@
 pub mod Encoded
+pub mod Names
 pub mod Once
 pub mod PrintedParts
 pub mod Reading

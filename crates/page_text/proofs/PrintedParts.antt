@@ -1,6 +1,5 @@
 -- A node is printed in parts: what stands before what is inside, what is inside where it is printed, and what stands after it.
 use Rattle.std.proofs.Common.{◌≡◌, ◌∙◌, ap, sym, refl, ℕ, zero, suc, ◌+◌, ◌-◌, ◌<◌, ◌≤◌, Bool, true, false, not, List, [], ◌∷◌, ◌++◌, append_assoc, append-nil, if◌then◌else◌, arith, take, length, get_or}
-use Rattle.std.specs.Prelude.{encode_utf8_all}
 use Rattle.std.specs.List.{flat_map}
 use Rattle.std.proofs.lemmas.List.{take_all, take_more}
 use Rattle.std.proofs.lemmas.List.Concat.{flat_map-append}

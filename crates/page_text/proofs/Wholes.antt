@@ -1,9 +1,9 @@
 -- No node of a forest is so deep that its text would be cut.
-use Rattle.std.proofs.Common.{◌≡◌, ◌∙◌, ap, ap₂, sym, refl, ℕ, zero, suc, ◌+◌, ◌<◌, ◌≤◌, Bool, true, false, List, [], ◌∷◌, ◌++◌, arith, Some}
+use Rattle.std.proofs.Common.{◌≡◌, ap, ap₂, refl, ℕ, zero, suc, ◌+◌, ◌<◌, Bool, true, false, List, [], ◌∷◌, ◌++◌, arith}
 use Rattle.std.specs.Prelude.{nat_eq, ◌||◌}
 use Rattle.std.specs.List.{flat_map}
 use Rattle.std.proofs.lemmas.Bool.{eq-eqb}
-use Rattle.door.specs.Forest.{DEPTH_LIMIT, Forest, IsForest, attributes_of, children_of, depth_of, form_at, is_among, is_child, parent_of}
+use Rattle.door.specs.Forest.{DEPTH_LIMIT, Forest, IsForest, attributes_of, children_of, depth_of, form_at, is_among, is_child}
 use Rattle.dom_tree.proofs.Parents.{depth_of-some, own_parents}
 use Rattle.page_text.specs.Printed.{IsPrintedWhole, around, printed, printed_levels, stands_raw}
 

@@ -1,10 +1,10 @@
 -- A node as it is printed (HTML, Serializing HTML fragments). That no other characters have entities, that no elements but script and style
 -- hold raw text, that the list of void elements is the reader's, and that doctypes are not kept, is this project's own.
-use Rattle.std.specs.Prelude.{◌≡◌, ℕ, Bool, true, false, ◌||◌, ◌==◌, List, [], ◌∷◌, ◌++◌, codes, if◌then◌else◌}
+use Rattle.std.specs.Prelude.{◌≡◌, ℕ, Bool, false, ◌||◌, ◌==◌, List, [], ◌∷◌, ◌++◌, codes, if◌then◌else◌}
 use Rattle.std.specs.List.{flat_map}
 use Rattle.std.specs.Option.{option_map_or}
 use Prim.Native.Nat.{zero, suc}
-use Rattle.door.specs.Forest.{Form, Root, Tagged, Written, Noted, Forest, IsForest, DEPTH_LIMIT, form_at, attributes_of, children_of, parent_of}
+use Rattle.door.specs.Forest.{Form, Root, Tagged, Written, Noted, Forest, DEPTH_LIMIT, form_at, attributes_of, children_of, parent_of}
 use Rattle.page_text.specs.Nodes.{is_named, is_void}
 
 -- elements whose texts stand raw (HTML, Raw text elements)

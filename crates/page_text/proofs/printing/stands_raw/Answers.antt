@@ -1,4 +1,4 @@
-use Rattle.std.proofs.Common.{◌∙◌, sym}
+use Rattle.std.proofs.Common.{sym}
 use Rattle.dom_tree.proofs.Parents.{child-within, parent_of-child}
 use Rattle.page_text.proofs.printing.stands_raw.Goals as goal
 
