@@ -1,6 +1,6 @@
 use Rattle.page_text.specs.Steps.{Steps, at_end, at_text, at_comment, at_doctype, at_end_tag, at_bad, state_of, step_of, end_of, text_of, comment_step, doctype_of, end_step, went, innermost}
 use Rattle.page_text.proofs.Reading.{given_answers}
-use Rattle.page_text.proofs.state.next_step.Goals as goal
+use Rattle.page_text.proofs.steps.next_step.Goals as goal
 
 pub returns-in-End-clause-value : goal.returns-in-End-clause-value
 returns-in-End-clause-value c =

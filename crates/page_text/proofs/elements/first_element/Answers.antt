@@ -1,7 +1,7 @@
 use Rattle.std.proofs.Common.{◌∙◌, sym}
 use Rattle.page_text.specs.Steps.{ElementStep, StepsAt, at_second, at_element, start_tag, state_of, step_of}
 use Rattle.page_text.proofs.Reading.{mapped}
-use Rattle.page_text.proofs.state.first_element.Goals as goal
+use Rattle.page_text.proofs.elements.first_element.Goals as goal
 
 pub returns-then-is_second-clause-value : goal.returns-then-is_second-clause-value
 returns-then-is_second-clause-value c = at_second (sym c.is_second.ensures ∙ c.if-is_second.true)
