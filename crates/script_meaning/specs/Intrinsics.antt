@@ -58,7 +58,7 @@ plain = Some (Own OBJECT_PROTOTYPE)
 abbrev global : List ℕ → Builtin → Intrinsic
 global key builtin = function GLOBAL_PLACE key builtin
 
--- a constructor whose prototype is another's
+-- a constructor whose prototype is another's; events are only named until they are built
 abbrev sharing : ℕ → List ℕ → Builtin → Intrinsic
 sharing place key builtin = record (global key builtin) { slots = hidden (codes "prototype") (Refers (Own place)) ∷ [] }
 

@@ -30,3 +30,6 @@ pub mod StopFacts
 pub mod Entries
 pub mod RequestFacts
 pub mod BeginningFacts
+pub mod FormFacts
+pub mod BuiltinFacts
+pub mod TextFacts

@@ -141,4 +141,5 @@ asks_row member.DocumentSetTitle this values m f c = this_thing Document this (�
     text_argument (argument values 0) (λ t m f. request_row member.DocumentSetTitle thing (door.Str t ∷ []) OfNothing m f c) c m f) c m f
 asks_row member.GmLog this values m f c = log_row member.GmLog (argument values 0 ∷ []) m f c
 asks_row member.ConsoleLog this values m f c = log_row member.ConsoleLog values m f c
+-- the other members aren't built yet, and no function asks for one
 asks_row name this values m f c = Fails
