@@ -75,6 +75,11 @@ fn has(rt: &impl Abort, tree: &Tree, node: u32, at: u32, name: &Text, value: &Te
         && tree.attr(NodeId(node), name) == Some(value)
 }
 
+fn above(rt: &impl Abort, tree: &Tree, node: u32) -> Option<NodeId> {
+    assert!(rt; node < tree.count());
+    tree.parent(NodeId(node))
+}
+
 fn under(rt: &impl Abort, tree: &Tree, node: u32, children: &[u32]) -> bool {
     assert!(rt; node < tree.count());
     tree.children(NodeId(node)) == children
@@ -229,10 +234,15 @@ fn nodes_are_copied(rt: HostRuntime) -> Result<(), Fail> {
         (12, Some(11)),
         (13, None),
     ] {
-        assert_eq!(rt; tree.parent(NodeId(node)), parent.map(|n| NodeId(n)));
+        assert_eq!(rt; above(&rt, &tree, node), parent.map(|n| NodeId(n)));
     }
-    for (node, want) in [(7, ""), (8, "one two"), (9, "one "), (13, "aside")] {
-        assert!(rt; tree.text_of(NodeId(node))?.as_str() == want);
+    for (node, want, count) in [
+        (7, "", 0),
+        (8, "one two", 2),
+        (9, "one ", 1),
+        (13, "aside", 0),
+    ] {
+        assert!(rt; reads(&rt, &tree, node, want, count)?);
     }
     Ok(())
 }
