@@ -33,3 +33,4 @@ pub mod BeginningFacts
 pub mod FormFacts
 pub mod BuiltinFacts
 pub mod TextFacts
+pub mod EntryFacts

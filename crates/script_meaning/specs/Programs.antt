@@ -8,6 +8,7 @@ use Rattle.door.specs.declared.requests.Request.TheVariants.{Native}
 use Rattle.door.specs.declared.requests.Answer.{Answer}
 use Rattle.door.specs.declared.requests.Answer.TheVariants.{Value as ValueAnswer}
 use Rattle.door.specs.declared.marks.Outcome.{Outcome}
+use Rattle.door.specs.declared.marks.Outcome.TheVariants.{Done as DoneOutcome}
 use Rattle.js_syntax.specs.declared.tree.Expr.{Expr}
 use Rattle.js_syntax.specs.declared.tree.Expr.TheVariants as ex
 use Rattle.js_syntax.specs.declared.tree.Stmt.{Stmt}
@@ -25,11 +26,30 @@ pub record Ran : Type 0 where
   pub outcome : Outcome
   pub units : ℕ
 
--- what a tree does where each line that it logs is answered, and it asks for nothing else
-unfoldable pub ran : Tree Machine → List (List ℕ) → Option Ran
-ran (Asks (Native ConsoleLog thing (door.Str line ∷ [])) next) log = ran (next (ValueAnswer door.Undefined)) (log ++ line ∷ [])
-ran (Tells (Leaves outcome units) levels m back) log = Some (record { log = log; outcome = outcome; units = units })
-ran tree log = None
+-- what ran, and the machine that an entry leaves
+pub record Left : Type 0 where
+  pub last : Ran
+  pub machine : Machine
+
+-- what a tree leaves where each line that it logs, after these, is answered, and it asks for nothing else
+unfoldable pub left : Tree Machine → List (List ℕ) → Option Left
+left (Asks (Native ConsoleLog thing (door.Str line ∷ [])) next) log = left (next (ValueAnswer door.Undefined)) (log ++ line ∷ [])
+left (Tells (Leaves outcome units) levels m back) log = Some (record { last = record { log = log; outcome = outcome; units = units }; machine = m })
+left tree log = None
+
+-- an entry on a machine
+abbrev pub EntryOn : Type 0
+EntryOn = Machine → Tree Machine
+
+-- entries one after the other, each on the machine that the one before it left
+abbrev pub left_by : List EntryOn → Option Left → Option Ran
+left_by entries None = None
+left_by [] (Some it) = Some it.last
+left_by (entry ∷ entries) (Some it) = left_by entries (left (entry it.machine) it.last.log)
+
+-- before anything
+abbrev pub nothing_ran : Machine → Left
+nothing_ran m = record { last = record { log = []; outcome = DoneOutcome; units = 0 }; machine = m }
 
 -- what a program asks for, how it ends, and its units
 pub record Acted : Type 0 where
@@ -63,7 +83,7 @@ AsksFor fuel levels body answers asked outcome units =
 -- a script does this on a machine, with so much fuel and so many levels
 abbrev pub DoesIn : Machine → (fuel levels : ℕ) → List Stmt → List (List ℕ) → Outcome → (units : ℕ) → Type 0
 DoesIn m fuel levels body log outcome units =
-    ran (script_entry fuel levels body m (λ m answer. Fails)) [] ≡ Some (record { log = log; outcome = outcome; units = units })
+    left_by ((λ m. script_entry fuel levels body m (λ m answer. Fails)) ∷ []) (Some (nothing_ran m)) ≡ Some (record { log = log; outcome = outcome; units = units })
 
 -- the same of the page's first script
 abbrev pub Does : (fuel levels : ℕ) → List Stmt → List (List ℕ) → Outcome → (units : ℕ) → Type 0

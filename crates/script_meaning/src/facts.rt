@@ -2,6 +2,7 @@
 
 ghost use Rattle.script_meaning.specs.BeginningFacts.{Beginnings};
 ghost use Rattle.script_meaning.specs.BuiltinFacts.{Builtins};
+ghost use Rattle.script_meaning.specs.EntryFacts.{Entries};
 ghost use Rattle.script_meaning.specs.Facts.{Operators};
 ghost use Rattle.script_meaning.specs.FormFacts.{Forms};
 ghost use Rattle.script_meaning.specs.FunctionFacts.{Functions};
@@ -53,4 +54,9 @@ pub fn builtins_are_computed()
 /// The same of the greatest text, of 262,144 bytes, and of one that is longer.
 pub fn text_limits_are_computed()
     ensures { TextLimits }
+{}
+
+/// What entries of scripts, timers and listeners do one after the other: the machine that one leaves is the next one's.
+pub fn entries_are_computed()
+    ensures { Entries }
 {}
