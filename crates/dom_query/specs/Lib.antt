@@ -1,0 +1,4 @@
+pub mod Fits
+pub mod Names
+pub mod Queries
+pub mod Words
