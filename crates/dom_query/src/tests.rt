@@ -1,10 +1,9 @@
 //! One tree and what each query lists of it; texts that are no selectors and where that is sure.
 
-use crate::selector::{Compound, Part, TagTest};
-use crate::{Selector, by_id, by_tag, select};
-use base_text::Text;
+use crate::{SelectorFault, by_id, by_tag, parse_selector, select};
+use base_text::{OrMemory, Text};
 use dom_tree::{NodeForm, NodeId, Tree};
-use door::{Actor, List};
+use door::Actor;
 use std::alloc::{AllocError, Global};
 use std::process::Abort;
 use std::test::Fail;
@@ -114,96 +113,106 @@ fn show(alloc: Global, nodes: &[NodeId]) -> Result<String, AllocError> {
     Ok(out)
 }
 
-fn one(alloc: Global, part: Part) -> Result<List<Part>, Fail> {
-    let mut parts = List::new(alloc);
-    parts.push(part)?;
-    Ok(parts)
-}
-
-/// A chain of an outer compound and an inner one.
-fn nested(alloc: Global, outer: Compound, inner: Compound) -> Result<Selector, Fail> {
-    let mut chain = List::new(alloc);
-    chain.push(outer)?;
-    chain.push(inner)?;
-    let mut chains = List::new(alloc);
-    chains.push(chain)?;
-    Ok(Selector { chains })
-}
-
-fn any(alloc: Global) -> Compound {
-    Compound {
-        tag: Some(TagTest::Any),
-        parts: List::new(alloc),
-    }
-}
-
-fn tagged(alloc: Global, tag: &str) -> Result<Compound, Fail> {
-    Ok(Compound {
-        tag: Some(TagTest::Named(Text::of(alloc, tag)?)),
-        parts: List::new(alloc),
-    })
-}
-
-fn with(alloc: Global, part: Part) -> Result<Compound, Fail> {
-    Ok(Compound {
-        tag: None,
-        parts: one(alloc, part)?,
-    })
-}
-
 #[test]
 fn selectors_list_elements_in_tree_order(rt: HostRuntime) -> Result<(), Fail> {
     let alloc = rt.alloc();
     let tree = grown(&rt, alloc)?;
-    let name = |s: &str| Text::of(alloc, s);
-    // root, outer and inner compound, what they list
+    // root, selector, what it lists
     let cases = [
-        (
-            0,
-            any(alloc),
-            any(alloc),
-            " 2 3 4 5 6 7 8 9 10 11 12 13 14 15 16 17 18",
-        ),
-        (0, tagged(alloc, "DIV")?, tagged(alloc, "span")?, " 7 17"),
-        (9, tagged(alloc, "body")?, tagged(alloc, "li")?, " 10 11 13"),
-        (0, any(alloc), with(alloc, Part::Id(name("s1")?))?, " 7 17"),
-        (
-            0,
-            any(alloc),
-            with(alloc, Part::Class(name("box")?))?,
-            " 5 14 15",
-        ),
-        (0, any(alloc), with(alloc, Part::Class(name("ite")?))?, ""),
-        (
-            0,
-            any(alloc),
-            with(alloc, Part::Class(name("grün")?))?,
-            " 18",
-        ),
-        (
-            0,
-            any(alloc),
-            with(alloc, Part::Has(name("DATA-N")?))?,
-            " 10 11 13",
-        ),
-        (
-            0,
-            any(alloc),
-            with(alloc, Part::Is(name("title")?, name("")?))?,
-            " 16",
-        ),
-        (
-            0,
-            any(alloc),
-            with(alloc, Part::Is(name("lang")?, name("EN")?))?,
-            "",
-        ),
+        (0, "*", " 1 2 3 4 5 6 7 8 9 10 11 12 13 14 15 16 17 18"),
+        (0, "html", " 1"),
+        (0, "div", " 5 15"),
+        (0, "DIV", " 5 15"),
+        (0, "über", " 18"),
+        (0, "#a", " 5"),
+        (0, "#A", ""),
+        (0, "#s1", " 7 17"),
+        (0, ".box", " 5 14 15"),
+        (0, ".Box", ""),
+        (0, ".item", " 10 11"),
+        (0, ".ite", ""),
+        (0, ".last", " 15"),
+        (0, ".grün", " 18"),
+        (0, "p.note.warn", " 8"),
+        (0, "p.warn.note", " 8"),
+        (0, ".x.y", " 7"),
+        (0, "*.box", " 5 14 15"),
+        (0, "[id]", " 4 5 7 9 17"),
+        (0, "[ID]", " 4 5 7 9 17"),
+        (0, "[data-n]", " 10 11 13"),
+        (0, "[data-n=1]", " 10"),
+        (0, "[data-n='1']", " 10"),
+        (0, "[data-n=\"10\"]", " 13"),
+        (0, "[title='a b']", " 14"),
+        (0, "[title='']", " 16"),
+        (0, "[lang=EN]", ""),
+        (0, "div span", " 7 17"),
+        (0, "div \t\n span", " 7 17"),
+        (0, "div div", ""),
+        (0, ".box .box", " 15"),
+        (0, "html body section span", " 17"),
+        (0, "p span,ul span", " 7 12"),
+        (0, " .warn , li ", " 8 10 11 13"),
+        (0, "span,span", " 7 12 17"),
+        (0, "#list li[data-n='2'] span.x", " 12"),
+        (0, "ul *", " 10 11 12 13"),
+        (0, "#loose", ""),
+        (9, "body li", " 10 11 13"),
+        (5, ".box", ""),
+        (5, "div p", " 6 8"),
+        (15, "div div *", ""),
+        (15, "section *", " 16 17"),
+        (19, "p", " 20"),
+        (19, "body p", ""),
     ];
-    for (root, outer, inner, want) in cases {
-        let selector = nested(alloc, outer, inner)?;
+    for (root, text, want) in cases {
+        let selector = parse_selector(alloc, &Text::of(alloc, text)?)?;
         assert!(rt; root < tree.count());
         let found = select(alloc, &tree, NodeId(root), &selector)?;
-        assert!(rt; show(alloc, &found)?.as_str() == want, "{want}");
+        assert!(rt; show(alloc, &found)?.as_str() == want, "{text}");
+    }
+    Ok(())
+}
+
+#[test]
+fn texts_that_spell_no_selector(rt: HostRuntime) -> Result<(), Fail> {
+    let alloc = rt.alloc();
+    let cases = [
+        ("", 0),
+        ("  ", 2),
+        ("div >a", 4),
+        (",", 0),
+        ("div,", 4),
+        ("div, ", 5),
+        ("div,,p", 4),
+        ("#", 1),
+        ("# a", 1),
+        ("a.", 2),
+        (".a.#b", 3),
+        ("*a", 1),
+        ("a*", 1),
+        ("a:hover", 1),
+        ("[", 1),
+        ("[]", 1),
+        ("[a", 2),
+        ("[a b]", 2),
+        ("[a=", 3),
+        ("[a=]", 3),
+        ("[a=b c]", 4),
+        ("[a='b", 5),
+        ("[a='b\"]", 7),
+        ("[a='b'", 6),
+        ("[a='b'c]", 6),
+        ("é(", 1),
+        ("p.note !", 7),
+    ];
+    for (text, at) in cases {
+        match parse_selector(alloc, &Text::of(alloc, text)?) {
+            Err(OrMemory::Fault(SelectorFault::BadSelector { at: place })) => {
+                assert!(rt; place == at, "{text}: {place}");
+            }
+            _ => assert!(rt; false, "{text}"),
+        }
     }
     Ok(())
 }
