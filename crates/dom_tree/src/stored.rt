@@ -152,6 +152,13 @@ impl Stored {
         matches!(self.form, Some(NodeForm::Comment(_)))
     }
 
+    /// Its attributes in order.
+    pub fn attributes(&self) -> &[(Text, Text)]
+        ensures { result.now ≡ self.now.attributes }
+    {
+        self.attributes.as_slice()
+    }
+
     /// The name and the value of the attribute at a place, from 0.
     pub fn attribute_at(&self, at: usize) -> Option<(&Text, &Text)>
         ensures { pair_copied result ≡ slice_get self.now.attributes at }
