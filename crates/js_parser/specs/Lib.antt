@@ -4,3 +4,4 @@ pub mod Answers
 pub mod Sets
 pub mod Reads
 pub mod Finishes
+pub mod Nests

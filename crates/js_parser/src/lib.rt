@@ -3,5 +3,6 @@
 #![tactic(auto)]
 
 mod cursor;
+mod level;
 mod make;
 mod words;
