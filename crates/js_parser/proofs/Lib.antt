@@ -13,3 +13,4 @@ pub mod Faults
 pub mod Whole
 pub mod Seen
 pub mod Turns
+pub mod Begun

@@ -5,7 +5,7 @@ ghost use Rattle.js_syntax.specs.Words.{closes_body, ends_line};
 ghost use Rattle.token_readers.specs.Readers.{expect};
 ghost use Rattle.js_parser.specs.Answers.{place};
 ghost use Rattle.js_parser.specs.Finishes.{Finishes};
-ghost use Rattle.js_parser.specs.Reads.{Reads, Undenied, Skips, Takes, symbol_at, on_line};
+ghost use Rattle.js_parser.specs.Reads.{Begins, Reads, Undenied, Skips, Takes, symbol_at, on_line};
 ghost use Rattle.js_parser.specs.Sets.{symbols_of};
 ghost use Rattle.js_parser.specs.Expressions.{parted};
 ghost use Rattle.js_parser.specs.Statements.{ends, halts, is_where};
@@ -169,6 +169,32 @@ impl<'a> Cursor<'a> {
             return self.skip();
         }
         None
+    }
+
+    /// Takes the next token where it is such and a level is left for what it begins.
+    pub fn begin(&mut self, left: usize, symbol: Symbol) -> Result<Option<&'a Token>, Failed>
+        ensures { Begins left (is symbol) self.old result self.new }
+    {
+        if !self.sees(symbol) {
+            return Ok(None);
+        }
+        if left == 0 {
+            return Err(Failed::Fault(ParseKind::TooDeep));
+        }
+        Ok(self.skip())
+    }
+
+    /// Takes the next token where it is one of these and a level is left for what it begins.
+    pub fn begin_any(&mut self, left: usize, of: Set) -> Result<Option<&'a Token>, Failed>
+        ensures { Begins left (among (symbols_of of)) self.old result self.new }
+    {
+        if !self.sees_any(of) {
+            return Ok(None);
+        }
+        if left == 0 {
+            return Err(Failed::Fault(ParseKind::TooDeep));
+        }
+        Ok(self.skip())
     }
 
     pub fn expect(&mut self, symbol: Symbol) -> Result<(), Failed>

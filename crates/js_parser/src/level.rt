@@ -1,11 +1,12 @@
 //! The forms at one level. What stands one level deeper is read by function values, so that each form is
 //! proved by itself.
+ghost use Rattle.std.specs.Prelude.{◌≡◌, if◌then◌else◌};
 ghost use Rattle.js_parser.specs.Reads.{Reads};
 ghost use Rattle.js_parser.specs.Nests.{Deeper};
 ghost use Rattle.js_parser.specs.Statements as spec;
 
 use crate::cursor::{Cursor, Failed};
-use js_syntax::{Expr, Property, Stmt};
+use js_syntax::{Expr, ParseKind, Property, Stmt};
 use std::alloc::Global;
 
 /// How many operators a chain and how many suffixes an expression may have.
@@ -47,6 +48,17 @@ pub struct Level<E, M, S> {
     pub member: M,
     /// Reads a statement, in a function or not, and in a loop of it or not.
     pub stmt: S,
+}
+
+/// The fault at a part past the last level.
+pub fn refuse_part(begins: bool) -> Failed
+    ensures { result ≡ (if begins then Failed.Fault ParseKind.TooDeep else Failed.Fault ParseKind.Unexpected) }
+{
+    if begins {
+        Failed::Fault(ParseKind::TooDeep)
+    } else {
+        Failed::Fault(ParseKind::Unexpected)
+    }
 }
 
 impl<

@@ -3,6 +3,12 @@
 #![tactic(auto)]
 
 mod cursor;
+mod functions;
 mod level;
 mod make;
+mod members;
+mod operators;
+mod series;
+mod suffixes;
+mod updates;
 mod words;
