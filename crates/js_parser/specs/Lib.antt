@@ -5,3 +5,4 @@ pub mod Sets
 pub mod Reads
 pub mod Finishes
 pub mod Nests
+pub mod Parts
