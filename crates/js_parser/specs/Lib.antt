@@ -5,3 +5,5 @@ pub mod Sets
 pub mod Reads
 pub mod Finishes
 pub mod Nests
+pub mod Parts
+pub mod Pieces

@@ -1,5 +1,5 @@
 //! Functions: their names, parameters and bodies.
-ghost use Rattle.std.specs.Prelude.{◌≡◌, ◌∷◌, []};
+ghost use Rattle.std.specs.Prelude.{◌≡◌};
 ghost use Rattle.token_readers.specs.Readers.{repeat};
 ghost use Rattle.js_syntax.specs.Grammar as grammar;
 ghost use Rattle.js_parser.specs.Reads.{Reads};

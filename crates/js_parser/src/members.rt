@@ -1,10 +1,8 @@
 //! Members of object literals.
-ghost use Rattle.std.specs.Prelude.{◌≡◌, ◌∷◌, []};
-ghost use Rattle.js_syntax.specs.Symbols.{is};
-ghost use Rattle.token_readers.specs.Readers.{◌>>=◌, pure, expect};
 ghost use Rattle.js_parser.specs.Reads.{Reads};
 ghost use Rattle.js_parser.specs.Nests.{Deeper};
 ghost use Rattle.js_parser.specs.Expressions as ex;
+ghost use Rattle.js_parser.specs.Pieces as pieces;
 ghost use Rattle.js_parser.specs.Statements as spec;
 
 use crate::cursor::{Cursor, Failed};
@@ -89,7 +87,7 @@ impl<
 
     fn keyed(&self, tokens: &mut Cursor<'_>, key: Text) -> Result<Property, Failed>
         requires { Deeper self.now.left (E.pre self.now.expr) (E.post self.now.expr) (M.pre self.now.member) (M.post self.now.member) (S.pre self.now.stmt) (S.post self.now.stmt) }
-        ensures { Reads ((expect Symbol.Colon >>= λ u. ex.valued CHAINS self.now.left (spec.within CHAINS self.now.left) key) tokens.old) result tokens.new }
+        ensures { Reads (pieces.keyed CHAINS self.now.left (spec.within CHAINS self.now.left) key tokens.old) result tokens.new }
     {
         tokens.expect(Symbol::Colon)?;
         self.valued(tokens, key)

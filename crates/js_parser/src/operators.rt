@@ -1,11 +1,12 @@
 //! Operators before, behind and between their operands.
-ghost use Rattle.std.specs.Prelude.{◌≡◌, ◌∷◌, [], ◌+◌, suc};
+ghost use Rattle.std.specs.Prelude.{◌≡◌, None};
 ghost use Rattle.js_syntax.specs.Symbols.{among, next, sees};
 ghost use Rattle.js_syntax.specs.Words as words;
 ghost use Rattle.token_readers.specs.Readers.{chain};
 ghost use Rattle.js_parser.specs.Reads.{Begins, Reads, Takes};
 ghost use Rattle.js_parser.specs.Nests.{Deeper};
 ghost use Rattle.js_parser.specs.Expressions as ex;
+ghost use Rattle.js_parser.specs.Pieces as pieces;
 ghost use Rattle.js_parser.specs.Statements as spec;
 
 use crate::cursor::{Cursor, Failed};
@@ -13,7 +14,6 @@ use crate::level::{CHAINS, Form, Level, Part};
 use crate::make;
 use crate::words::Set;
 use js_syntax::{Expr, ParseKind, Property, Stmt, Symbol, Token};
-use sqlite_items::Boxed;
 use std::alloc::Global;
 
 /// How many levels of left chains there are, strongest first.
@@ -178,7 +178,7 @@ impl<
         mark: &Token,
     ) -> Result<Expr, Failed>
         requires { Deeper self.now.left (E.pre self.now.expr) (E.post self.now.expr) (M.pre self.now.member) (M.post self.now.member) (S.pre self.now.stmt) (S.post self.now.stmt) }
-        ensures { Reads (((spec.within CHAINS self.now.left).expr in_is >>= λ b. pure (words.assignment (symbol_of mark.now) target b)) tokens.old) result tokens.new }
+        ensures { Reads (pieces.assigned (spec.within CHAINS self.now.left) in_is target mark.now tokens.old) result tokens.new }
     {
         let value = self.expr(tokens, in_is)?;
         Ok(make::assignment(self.alloc, mark.symbol(), target, value)?)

@@ -1,7 +1,6 @@
 //! Lists whose parts stand one level deeper.
-ghost use Rattle.std.specs.Prelude.{◌∷◌, []};
+ghost use Rattle.std.specs.Prelude.{true};
 ghost use Rattle.js_syntax.specs.Symbols.{is};
-ghost use Rattle.js_syntax.specs.Words.{closes_body};
 ghost use Rattle.token_readers.specs.Readers.{repeat};
 ghost use Rattle.js_parser.specs.Reads.{Reads};
 ghost use Rattle.js_parser.specs.Nests.{Deeper};
@@ -122,28 +121,6 @@ impl<
     {
         let found = self.each_member(tokens)?;
         tokens.expect(Symbol::CloseBrace)?;
-        Ok(found)
-    }
-
-    /// The statements of a body, up to what ends it.
-    #[tactic(auto, unfolding(crate::specs::Expressions::each, token_readers::specs::Readers::repeat, token_readers::specs::Readers::rounds))]
-    pub fn statements(
-        &self,
-        tokens: &mut Cursor<'_>,
-        in_function: bool,
-        in_loop: bool,
-    ) -> Result<Items<Stmt>, Failed>
-        requires { Deeper self.now.left (E.pre self.now.expr) (E.post self.now.expr) (M.pre self.now.member) (M.post self.now.member) (S.pre self.now.stmt) (S.post self.now.stmt) }
-        ensures { Reads (ex.each closes_body ((spec.within CHAINS self.now.left).stmt in_function in_loop) tokens.old) result tokens.new }
-    {
-        let mut found = Items::new(self.alloc);
-        for _turn in 0..tokens.left() {
-            if tokens.closes_body() {
-                return Ok(found);
-            }
-            let item = self.stmt(tokens, in_function, in_loop)?;
-            found.push(item)?;
-        }
         Ok(found)
     }
 }

@@ -1,11 +1,12 @@
 //! What stands first in an expression, and its suffixes.
-ghost use Rattle.std.specs.Prelude.{◌≡◌, ◌∷◌, [], if◌then◌else◌};
+ghost use Rattle.std.specs.Prelude.{true};
 ghost use Rattle.js_syntax.specs.Symbols.{is, among};
-ghost use Rattle.token_readers.specs.Readers.{◌>>=◌, chain, pure};
+ghost use Rattle.token_readers.specs.Readers.{chain};
 ghost use Rattle.js_parser.specs.Reads.{Reads};
 ghost use Rattle.js_parser.specs.Nests.{Deeper};
 ghost use Rattle.js_parser.specs.Sets.{symbols_of};
 ghost use Rattle.js_parser.specs.Expressions as ex;
+ghost use Rattle.js_parser.specs.Pieces as pieces;
 ghost use Rattle.js_parser.specs.Statements as spec;
 
 use crate::cursor::{Cursor, Failed};
@@ -23,7 +24,7 @@ impl<
 > Level<E, M, S> {
     fn closed_exprs(&self, tokens: &mut Cursor<'_>) -> Result<Items<Expr>, Failed>
         requires { Deeper self.now.left (E.pre self.now.expr) (E.post self.now.expr) (M.pre self.now.member) (M.post self.now.member) (S.pre self.now.stmt) (S.post self.now.stmt) }
-        ensures { Reads (ex.closed Symbol.Close (ex.separated ((spec.within CHAINS self.now.left).expr true)) tokens.old) result tokens.new }
+        ensures { Reads (pieces.some_arguments (spec.within CHAINS self.now.left) tokens.old) result tokens.new }
     {
         let all = self.exprs(tokens)?;
         tokens.expect(Symbol::Close)?;
@@ -57,7 +58,7 @@ impl<
 
     fn array(&self, tokens: &mut Cursor<'_>) -> Result<Expr, Failed>
         requires { Deeper self.now.left (E.pre self.now.expr) (E.post self.now.expr) (M.pre self.now.member) (M.post self.now.member) (S.pre self.now.stmt) (S.post self.now.stmt) }
-        ensures { Reads ((ex.listed Symbol.CloseBracket ((spec.within CHAINS self.now.left).expr true) >>= λ all. pure (Expr.Array all)) tokens.old) result tokens.new }
+        ensures { Reads (pieces.array_of (spec.within CHAINS self.now.left) tokens.old) result tokens.new }
     {
         let all = self.elements(tokens)?;
         Ok(Expr::Array(all))
@@ -65,7 +66,7 @@ impl<
 
     fn object(&self, tokens: &mut Cursor<'_>) -> Result<Expr, Failed>
         requires { Deeper self.now.left (E.pre self.now.expr) (E.post self.now.expr) (M.pre self.now.member) (M.post self.now.member) (S.pre self.now.stmt) (S.post self.now.stmt) }
-        ensures { Reads ((ex.listed Symbol.CloseBrace (spec.within CHAINS self.now.left).member >>= λ all. pure (Expr.Object all)) tokens.old) result tokens.new }
+        ensures { Reads (pieces.object_of (spec.within CHAINS self.now.left) tokens.old) result tokens.new }
     {
         let all = self.members(tokens)?;
         Ok(Expr::Object(all))
@@ -73,7 +74,7 @@ impl<
 
     fn function(&self, tokens: &mut Cursor<'_>) -> Result<Expr, Failed>
         requires { Deeper self.now.left (E.pre self.now.expr) (E.post self.now.expr) (M.pre self.now.member) (M.post self.now.member) (S.pre self.now.stmt) (S.post self.now.stmt) }
-        ensures { Reads ((ex.named (spec.within CHAINS self.now.left) >>= λ f. pure (Expr.Function f)) tokens.old) result tokens.new }
+        ensures { Reads (pieces.function_of (spec.within CHAINS self.now.left) tokens.old) result tokens.new }
     {
         let function = self.named(tokens)?;
         Ok(make::function(self.alloc, function)?)

@@ -1,6 +1,4 @@
 //! The operand of a `++` or `--` before it.
-ghost use Rattle.std.specs.Prelude.{◌≡◌, ◌∷◌, []};
-ghost use Rattle.js_syntax.specs.Symbols.{among};
 ghost use Rattle.js_parser.specs.Reads.{Reads};
 ghost use Rattle.js_parser.specs.Nests.{Deeper};
 ghost use Rattle.js_parser.specs.Expressions as ex;
