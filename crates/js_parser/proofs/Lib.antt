@@ -14,3 +14,6 @@ pub mod Whole
 pub mod Seen
 pub mod Turns
 pub mod Begun
+pub mod EndsWell
+pub mod OneFault
+pub mod Parsed

@@ -36,7 +36,8 @@ impl<
         requires { Deeper self.now.left (E.pre self.now.expr) (E.post self.now.expr) (M.pre self.now.member) (M.post self.now.member) (S.pre self.now.stmt) (S.post self.now.stmt) }
         ensures { Reads (spec.throw CHAINS self.now.left (spec.within CHAINS self.now.left) tokens.old) result tokens.new }
     {
-        if tokens.ends_line() {
+        let is_over = tokens.ends_line();
+        if is_over {
             return Err(Failed::Fault(ParseKind::Unexpected));
         }
         let value = self.assign(tokens, true)?;

@@ -12,7 +12,7 @@ pub fn tokens_of_a_text_end_well()
 
 /// Tokens are of one script at most, whatever the limits: no two trees have the same tokens.
 pub fn scripts_are_read_one_way()
-    ensures { (chains levels : ℕ) (tokens : List Token) (script other : Script) → 1 ≤ chains → IsScript chains levels tokens script → IsScript chains levels tokens other → script ≡ other }
+    ensures { (chains levels : ℕ) (tokens : List Token) (script other : Script) → IsScript chains levels tokens script → IsScript chains levels tokens other → script ≡ other }
 {}
 
 /// Wider limits keep a script.

@@ -1,6 +1,7 @@
 //! `for` (ECMAScript, 14.7.4 and 14.7.5).
 ghost use Rattle.js_parser.specs.Reads.{Reads};
 ghost use Rattle.js_parser.specs.Nests.{Deeper};
+ghost use Rattle.token_readers.specs.Readers.{◌>>=◌, pure};
 ghost use Rattle.js_parser.specs.Statements as spec;
 
 use crate::cursor::{Cursor, Failed};
@@ -31,6 +32,37 @@ impl<
         Ok(Some(value))
     }
 
+    /// A `for` behind its head.
+    pub fn for_body(
+        &self,
+        tokens: &mut Cursor<'_>,
+        in_function: bool,
+        start: ForStart,
+        test: Option<Expr>,
+        step: Option<Expr>,
+    ) -> Result<Stmt, Failed>
+        requires { Deeper self.now.left (E.pre self.now.expr) (E.post self.now.expr) (M.pre self.now.member) (M.post self.now.member) (S.pre self.now.stmt) (S.post self.now.stmt) }
+        ensures { Reads (((spec.within CHAINS self.now.left).stmt in_function true >>= λ x. pure (Stmt.For start test step x)) tokens.old) result tokens.new }
+    {
+        let body = self.stmt(tokens, in_function, true)?;
+        Ok(make::turns(self.alloc, start, test, step, body)?)
+    }
+
+    /// A `for` behind the second semicolon of its head.
+    pub fn for_step(
+        &self,
+        tokens: &mut Cursor<'_>,
+        in_function: bool,
+        start: ForStart,
+        test: Option<Expr>,
+    ) -> Result<Stmt, Failed>
+        requires { Deeper self.now.left (E.pre self.now.expr) (E.post self.now.expr) (M.pre self.now.member) (M.post self.now.member) (S.pre self.now.stmt) (S.post self.now.stmt) }
+        ensures { Reads ((spec.optional CHAINS self.now.left (spec.within CHAINS self.now.left) Symbol.Close >>= λ c. (spec.within CHAINS self.now.left).stmt in_function true >>= λ x. pure (Stmt.For start test c x)) tokens.old) result tokens.new }
+    {
+        let step = self.optional(tokens, Symbol::Close)?;
+        self.for_body(tokens, in_function, start, test, step)
+    }
+
     /// A `for` behind the first semicolon of its head.
     #[tactic(auto, unfolding(crate::specs::Statements::for_rest))]
     pub fn for_rest(
@@ -43,9 +75,7 @@ impl<
         ensures { Reads (spec.for_rest CHAINS self.now.left (spec.within CHAINS self.now.left) in_function start tokens.old) result tokens.new }
     {
         let test = self.optional(tokens, Symbol::Semicolon)?;
-        let step = self.optional(tokens, Symbol::Close)?;
-        let body = self.stmt(tokens, in_function, true)?;
-        Ok(make::turns(self.alloc, start, test, step, body)?)
+        self.for_step(tokens, in_function, start, test)
     }
 
     /// A `for` over keys behind its `in`.
