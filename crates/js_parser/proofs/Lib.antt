@@ -14,3 +14,4 @@ pub mod Whole
 pub mod Seen
 pub mod Turns
 pub mod Begun
+pub mod Links

@@ -52,6 +52,7 @@ impl<
     }
 
     /// What stands behind a `get`, which is a key where a colon follows.
+    #[tactic(auto, using(crate::proofs::Begun::taken, crate::proofs::Begun::passed, crate::proofs::Begun::refused))]
     fn after_get(&self, tokens: &mut Cursor<'_>, word: Text) -> Result<Property, Failed>
         requires { Deeper self.now.left (E.pre self.now.expr) (E.post self.now.expr) (M.pre self.now.member) (M.post self.now.member) (S.pre self.now.stmt) (S.post self.now.stmt) }
         ensures { Reads (ex.after_get CHAINS self.now.left (spec.within CHAINS self.now.left) word tokens.old) result tokens.new }
@@ -69,6 +70,7 @@ impl<
     }
 
     /// What stands behind a `set`, which is a key where a colon follows.
+    #[tactic(auto, using(crate::proofs::Begun::taken, crate::proofs::Begun::passed, crate::proofs::Begun::refused))]
     fn after_set(&self, tokens: &mut Cursor<'_>, word: Text) -> Result<Property, Failed>
         requires { Deeper self.now.left (E.pre self.now.expr) (E.post self.now.expr) (M.pre self.now.member) (M.post self.now.member) (S.pre self.now.stmt) (S.post self.now.stmt) }
         ensures { Reads (ex.after_set CHAINS self.now.left (spec.within CHAINS self.now.left) word tokens.old) result tokens.new }

@@ -67,7 +67,7 @@ impl<
     }
 
     /// An operand, with the operators before it.
-    #[tactic(auto, unfolding(crate::specs::Expressions::unary))]
+    #[tactic(auto, unfolding(crate::specs::Expressions::unary), using(crate::proofs::Begun::taken, crate::proofs::Begun::passed, crate::proofs::Begun::refused))]
     pub fn unary(&self, tokens: &mut Cursor<'_>) -> Result<Expr, Failed>
         requires { Deeper self.now.left (E.pre self.now.expr) (E.post self.now.expr) (M.pre self.now.member) (M.post self.now.member) (S.pre self.now.stmt) (S.post self.now.stmt) }
         ensures { Reads (ex.unary CHAINS self.now.left (spec.within CHAINS self.now.left) tokens.old) result tokens.new }
@@ -158,7 +158,7 @@ impl<
     }
 
     /// A choice between two expressions, or one alone.
-    #[tactic(auto, unfolding(crate::specs::Expressions::conditional))]
+    #[tactic(auto, unfolding(crate::specs::Expressions::conditional), using(crate::proofs::Begun::taken, crate::proofs::Begun::passed, crate::proofs::Begun::refused))]
     fn conditional(&self, tokens: &mut Cursor<'_>, in_is: bool) -> Result<Expr, Failed>
         requires { Deeper self.now.left (E.pre self.now.expr) (E.post self.now.expr) (M.pre self.now.member) (M.post self.now.member) (S.pre self.now.stmt) (S.post self.now.stmt) }
         ensures { Reads (ex.conditional CHAINS self.now.left (spec.within CHAINS self.now.left) in_is tokens.old) result tokens.new }
@@ -185,7 +185,7 @@ impl<
     }
 
     /// An expression.
-    #[tactic(auto, unfolding(crate::specs::Expressions::assign))]
+    #[tactic(auto, unfolding(crate::specs::Expressions::assign), using(crate::proofs::Begun::taken, crate::proofs::Begun::passed, crate::proofs::Begun::refused))]
     pub fn assign(&self, tokens: &mut Cursor<'_>, in_is: bool) -> Result<Expr, Failed>
         requires { Deeper self.now.left (E.pre self.now.expr) (E.post self.now.expr) (M.pre self.now.member) (M.post self.now.member) (S.pre self.now.stmt) (S.post self.now.stmt) }
         ensures { Reads (ex.assign CHAINS self.now.left (spec.within CHAINS self.now.left) in_is tokens.old) result tokens.new }
