@@ -9,6 +9,7 @@ mod entry;
 mod exits;
 mod functions;
 mod handlers;
+mod laws;
 mod level;
 mod loops;
 mod make;
@@ -23,3 +24,4 @@ mod words;
 
 pub use entry::parse;
 pub use js_syntax::{ParseFault, ParseKind};
+pub use laws::{scripts_are_read_one_way, tokens_of_a_text_end_well, wider_limits_keep_scripts};

@@ -1,6 +1,8 @@
 //! Statements by their first token (ECMAScript, 14).
 ghost use Rattle.js_parser.specs.Reads.{Reads};
 ghost use Rattle.js_parser.specs.Nests.{Deeper};
+ghost use Rattle.js_syntax.specs.Symbols.{is};
+ghost use Rattle.token_readers.specs.Readers.{begin};
 ghost use Rattle.js_parser.specs.Statements as spec;
 
 use crate::cursor::{Cursor, Failed};
