@@ -15,3 +15,4 @@ pub mod Seen
 pub mod Turns
 pub mod Begun
 pub mod Links
+pub mod TargetLinks

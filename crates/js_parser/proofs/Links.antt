@@ -1,11 +1,15 @@
 -- One turn of a chain with a limit, by what its next token is.
-use Rattle.std.proofs.Common.{◌≡◌, ℕ, zero, suc, Bool, true, false, cond, List, [], ◌∷◌, Option, Some, None, Result, Ok, Err, refl, ap, ◌∙◌}
+use Rattle.std.proofs.Common.{◌≡◌, ℕ, zero, suc, Bool, true, false, cond, List, [], ◌∷◌, Option, Some, None, Result, Ok, Err, refl, sym, ap, ◌∙◌}
 use Rattle.js_syntax.specs.declared.token.Token.{Token}
 use Rattle.js_syntax.specs.declared.parse_fault.ParseKind.TheVariants.{TooDeep}
 use Rattle.js_syntax.specs.Symbols.{Tokens, next, sees}
 use Rattle.token_readers.specs.Readers.{Reader, and_then, ◌>>=◌, pure, refuse, on, deny, chain}
 use Rattle.token_readers.proofs.Loops.{denies, deny_passes}
 use Rattle.token_readers.proofs.Spells.{on_passes}
+use Rattle.js_parser.specs.declared.cursor.Failed.{Failed}
+use Rattle.js_parser.specs.declared.cursor.Failed.TheVariants.{NoMemory, Fault}
+use Rattle.js_parser.specs.Reads.{Reads, Undenied}
+use Rattle.js_parser.specs.Expressions.{denied as none_left}
 
 pub denied : {A : Type 0} (d : Option (Token → Bool)) (r : Reader A) (ts : Tokens) → sees (denies d) (next ts) ≡ true → deny d r ts ≡ Err (TooDeep, ts)
 denied None r [] h = absurd cc
@@ -30,3 +34,11 @@ link_denied n d q step a old h = denied d (on q (λ t. step a t >>= chain n d q 
 pub links_end : {A : Type 0} (d : Option (Token → Bool)) (q : Token → Bool) (step : A → Token → Reader A) (a : A) (ts : Tokens) (b : Bool) → sees q (next ts) ≡ b → chain 0 d q step a ts ≡ cond b (Err (TooDeep, ts)) (Ok (a, ts))
 unfolding chain
 links_end d q step a ts b h = ap (λ b. cond b (Err (TooDeep, ts)) (Ok (a, ts))) h
+
+pub reads_denied : {A : Type 0} (left n : ℕ) (q : Token → Bool) (step : A → Token → Reader A) (a : A) (ts : Tokens) (x : Failed) → Undenied left ts (Err x) → Reads (chain (suc n) (none_left left) q step a ts) (Err x) ts
+reads_denied left n q step a ts NoMemory h = tt
+reads_denied left n q step a ts (Fault kind) h = link_denied n (none_left left) q step a ts h.1 ∙ ap (λ k. Err (k, ts)) (sym h.0)
+
+pub nothing_denied : (o : Option Token) → sees (denies None) o ≡ false
+nothing_denied None = refl
+nothing_denied (Some t) = refl

@@ -12,5 +12,5 @@ decreases-binary g l = 2 * l.levels
 abbrev pub decreases-operations : goal.decreases-operations
 decreases-operations g l = 2 * l.level + 1
 
-abbrev pub operations-invariant-loop-link : goal.operations-invariant-loop-link
-operations-invariant-loop-link g l = chain (64 - l._link) None (among (operators l.in_is l.level)) (operand_of (binary 64 l.self.left (within 64 l.self.left) l.in_is l.level)) l.found l.tokens ≡ chain 64 None (among (operators l.in_is l.level)) (operand_of (binary 64 l.self.left (within 64 l.self.left) l.in_is l.level)) l.fn.found l.fn.tokens
+abbrev pub invariant-operations-loop-link : goal.invariant-operations-loop-link
+invariant-operations-loop-link g l = chain (64 - l._link) None (among (operators l.in_is l.level)) (operand_of (binary 64 l.self.left (within 64 l.self.left) l.in_is l.level)) l.found l.tokens ≡ chain 64 None (among (operators l.in_is l.level)) (operand_of (binary 64 l.self.left (within 64 l.self.left) l.in_is l.level)) l.fn.found l.fn.tokens
