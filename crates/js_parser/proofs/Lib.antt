@@ -17,3 +17,5 @@ pub mod Begun
 pub mod EndsWell
 pub mod OneFault
 pub mod Parsed
+pub mod Links
+pub mod TargetLinks

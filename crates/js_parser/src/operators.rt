@@ -66,21 +66,44 @@ impl<
         }
     }
 
+    fn prefixed_by(&self, tokens: &mut Cursor<'_>, mark: &Token) -> Result<Expr, Failed>
+        requires { Deeper self.now.left (E.pre self.now.expr) (E.post self.now.expr) (M.pre self.now.member) (M.post self.now.member) (S.pre self.now.stmt) (S.post self.now.stmt) }
+        ensures { Reads (pieces.prefixed_by (spec.within CHAINS self.now.left) mark.now tokens.old) result tokens.new }
+    {
+        let operand = self.operand(tokens)?;
+        Ok(make::prefixed(self.alloc, mark.symbol(), operand)?)
+    }
+
+    fn updated_by(&self, tokens: &mut Cursor<'_>, mark: &Token) -> Result<Expr, Failed>
+        requires { Deeper self.now.left (E.pre self.now.expr) (E.post self.now.expr) (M.pre self.now.member) (M.post self.now.member) (S.pre self.now.stmt) (S.post self.now.stmt) }
+        ensures { Reads (pieces.updated_by (spec.within CHAINS self.now.left) mark.now tokens.old) result tokens.new }
+    {
+        let operand = self.target(tokens)?;
+        Ok(make::update(self.alloc, mark.symbol(), operand)?)
+    }
+
+    /// An operand with a `++` or `--` before it or behind it, or alone.
+    #[tactic(auto, using(crate::proofs::Begun::taken, crate::proofs::Begun::passed, crate::proofs::Begun::refused))]
+    fn updated(&self, tokens: &mut Cursor<'_>) -> Result<Expr, Failed>
+        requires { Deeper self.now.left (E.pre self.now.expr) (E.post self.now.expr) (M.pre self.now.member) (M.post self.now.member) (S.pre self.now.stmt) (S.post self.now.stmt) }
+        ensures { Reads (pieces.updated CHAINS self.now.left (spec.within CHAINS self.now.left) tokens.old) result tokens.new }
+    {
+        if let Some(mark) = tokens.begin_any(self.left, Set::Updates)? {
+            return self.updated_by(tokens, mark);
+        }
+        self.postfix(tokens)
+    }
+
     /// An operand, with the operators before it.
-    #[tactic(auto, unfolding(crate::specs::Expressions::unary))]
+    #[tactic(auto, unfolding(crate::specs::Expressions::unary), using(crate::proofs::Begun::taken, crate::proofs::Begun::passed, crate::proofs::Begun::refused))]
     pub fn unary(&self, tokens: &mut Cursor<'_>) -> Result<Expr, Failed>
         requires { Deeper self.now.left (E.pre self.now.expr) (E.post self.now.expr) (M.pre self.now.member) (M.post self.now.member) (S.pre self.now.stmt) (S.post self.now.stmt) }
         ensures { Reads (ex.unary CHAINS self.now.left (spec.within CHAINS self.now.left) tokens.old) result tokens.new }
     {
-        if let Some(token) = tokens.begin_any(self.left, Set::Prefixes)? {
-            let operand = self.operand(tokens)?;
-            return Ok(make::prefixed(self.alloc, token.symbol(), operand)?);
+        if let Some(mark) = tokens.begin_any(self.left, Set::Prefixes)? {
+            return self.prefixed_by(tokens, mark);
         }
-        if let Some(token) = tokens.begin_any(self.left, Set::Updates)? {
-            let operand = self.target(tokens)?;
-            return Ok(make::update(self.alloc, token.symbol(), operand)?);
-        }
-        self.postfix(tokens)
+        self.updated(tokens)
     }
 
     /// Operands with operators of so many levels between.
@@ -157,6 +180,17 @@ impl<
         self.otherwise_of(tokens, in_is, test, then)
     }
 
+    #[tactic(auto, using(crate::proofs::Begun::taken, crate::proofs::Begun::passed, crate::proofs::Begun::refused))]
+    fn chosen(&self, tokens: &mut Cursor<'_>, in_is: bool, test: Expr) -> Result<Expr, Failed>
+        requires { Deeper self.now.left (E.pre self.now.expr) (E.post self.now.expr) (M.pre self.now.member) (M.post self.now.member) (S.pre self.now.stmt) (S.post self.now.stmt) }
+        ensures { Reads (pieces.chosen self.now.left (spec.within CHAINS self.now.left) in_is test tokens.old) result tokens.new }
+    {
+        if let Some(_) = tokens.begin(self.left, Symbol::Question)? {
+            return self.choices(tokens, in_is, test);
+        }
+        Ok(test)
+    }
+
     /// A choice between two expressions, or one alone.
     #[tactic(auto, unfolding(crate::specs::Expressions::conditional))]
     fn conditional(&self, tokens: &mut Cursor<'_>, in_is: bool) -> Result<Expr, Failed>
@@ -164,10 +198,7 @@ impl<
         ensures { Reads (ex.conditional CHAINS self.now.left (spec.within CHAINS self.now.left) in_is tokens.old) result tokens.new }
     {
         let test = self.binary(tokens, in_is, LEVELS_OF_CHAINS)?;
-        match tokens.begin(self.left, Symbol::Question)? {
-            Some(_) => self.choices(tokens, in_is, test),
-            None => Ok(test),
-        }
+        self.chosen(tokens, in_is, test)
     }
 
     fn assigned(
@@ -184,6 +215,17 @@ impl<
         Ok(make::assignment(self.alloc, mark.symbol(), target, value)?)
     }
 
+    #[tactic(auto, using(crate::proofs::Begun::taken, crate::proofs::Begun::passed, crate::proofs::Begun::refused))]
+    fn set_to(&self, tokens: &mut Cursor<'_>, in_is: bool, target: Expr) -> Result<Expr, Failed>
+        requires { Deeper self.now.left (E.pre self.now.expr) (E.post self.now.expr) (M.pre self.now.member) (M.post self.now.member) (S.pre self.now.stmt) (S.post self.now.stmt) }
+        ensures { Reads (pieces.set_to self.now.left (spec.within CHAINS self.now.left) in_is target tokens.old) result tokens.new }
+    {
+        if let Some(mark) = begin_assign(tokens, self.left, &target)? {
+            return self.assigned(tokens, in_is, target, mark);
+        }
+        Ok(target)
+    }
+
     /// An expression.
     #[tactic(auto, unfolding(crate::specs::Expressions::assign))]
     pub fn assign(&self, tokens: &mut Cursor<'_>, in_is: bool) -> Result<Expr, Failed>
@@ -191,9 +233,6 @@ impl<
         ensures { Reads (ex.assign CHAINS self.now.left (spec.within CHAINS self.now.left) in_is tokens.old) result tokens.new }
     {
         let target = self.conditional(tokens, in_is)?;
-        match begin_assign(tokens, self.left, &target)? {
-            Some(mark) => self.assigned(tokens, in_is, target, mark),
-            None => Ok(target),
-        }
+        self.set_to(tokens, in_is, target)
     }
 }

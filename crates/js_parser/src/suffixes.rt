@@ -80,6 +80,24 @@ impl<
         Ok(make::function(self.alloc, function)?)
     }
 
+    /// An array, an object or a function.
+    #[tactic(auto, using(crate::proofs::Begun::taken, crate::proofs::Begun::passed, crate::proofs::Begun::refused))]
+    fn literal(&self, tokens: &mut Cursor<'_>) -> Result<Expr, Failed>
+        requires { Deeper self.now.left (E.pre self.now.expr) (E.post self.now.expr) (M.pre self.now.member) (M.post self.now.member) (S.pre self.now.stmt) (S.post self.now.stmt) }
+        ensures { Reads (pieces.literal self.now.left (spec.within CHAINS self.now.left) tokens.old) result tokens.new }
+    {
+        if let Some(_) = tokens.eat(Symbol::OpenBracket) {
+            return self.array(tokens);
+        }
+        if let Some(_) = tokens.eat(Symbol::OpenBrace) {
+            return self.object(tokens);
+        }
+        if let Some(_) = tokens.begin(self.left, Symbol::Function)? {
+            return self.function(tokens);
+        }
+        Err(Failed::Fault(ParseKind::Unexpected))
+    }
+
     /// An expression that is none of smaller ones with an operator or a suffix.
     #[tactic(auto, unfolding(crate::specs::Expressions::primary), using(crate::proofs::Begun::taken, crate::proofs::Begun::passed, crate::proofs::Begun::refused))]
     pub fn primary(&self, tokens: &mut Cursor<'_>) -> Result<Expr, Failed>
@@ -92,16 +110,7 @@ impl<
         if let Some(_) = tokens.begin(self.left, Symbol::Open)? {
             return self.closed(tokens, Symbol::Close);
         }
-        if let Some(_) = tokens.eat(Symbol::OpenBracket) {
-            return self.array(tokens);
-        }
-        if let Some(_) = tokens.eat(Symbol::OpenBrace) {
-            return self.object(tokens);
-        }
-        if let Some(_) = tokens.begin(self.left, Symbol::Function)? {
-            return self.function(tokens);
-        }
-        Err(Failed::Fault(ParseKind::Unexpected))
+        self.literal(tokens)
     }
 
     #[tactic(auto, unfolding(crate::specs::Expressions::new))]
@@ -118,7 +127,7 @@ impl<
     }
 
     /// What suffixes follow.
-    #[tactic(auto, unfolding(crate::specs::Expressions::base))]
+    #[tactic(auto, unfolding(crate::specs::Expressions::base), using(crate::proofs::Begun::taken, crate::proofs::Begun::passed, crate::proofs::Begun::refused))]
     fn base(&self, tokens: &mut Cursor<'_>) -> Result<Expr, Failed>
         requires { Deeper self.now.left (E.pre self.now.expr) (E.post self.now.expr) (M.pre self.now.member) (M.post self.now.member) (S.pre self.now.stmt) (S.post self.now.stmt) }
         ensures { Reads (ex.base self.now.left (spec.within CHAINS self.now.left) tokens.old) result tokens.new }

@@ -12,6 +12,9 @@ use crate::words::Set;
 use js_syntax::{Expr, ParseKind, Property, Stmt, Symbol};
 use std::alloc::Global;
 
+/// How many of the suffixes may be calls.
+const CALLS: usize = CHAINS - 1;
+
 /// A name or a member, with no operator behind it.
 #[tactic(auto, unfolding(crate::specs::Expressions::accept))]
 fn accept(tokens: &Cursor<'_>, found: Expr) -> Result<Expr, Failed>
@@ -39,7 +42,7 @@ impl<
         Ok(make::new(self.alloc, callee, given)?)
     }
 
-    #[tactic(auto, unfolding(crate::specs::Expressions::target_base))]
+    #[tactic(auto, unfolding(crate::specs::Expressions::target_base), using(crate::proofs::Begun::taken, crate::proofs::Begun::passed, crate::proofs::Begun::refused))]
     fn target_base(&self, tokens: &mut Cursor<'_>) -> Result<Expr, Failed>
         requires { Deeper self.now.left (E.pre self.now.expr) (E.post self.now.expr) (M.pre self.now.member) (M.post self.now.member) (S.pre self.now.stmt) (S.post self.now.stmt) }
         ensures { Reads (ex.target_base self.now.left (spec.within CHAINS self.now.left) tokens.old) result tokens.new }
@@ -72,7 +75,7 @@ impl<
     }
 
     /// In the last place stands no call.
-    #[tactic(auto, unfolding(crate::specs::Expressions::target_chain))]
+    #[tactic(auto, unfolding(crate::specs::Expressions::target_chain), using(token_readers::proofs::Loops::deny_passes, crate::proofs::Links::denied))]
     fn last_suffix(&self, tokens: &mut Cursor<'_>, found: Expr) -> Result<Expr, Failed>
         requires { Deeper self.now.left (E.pre self.now.expr) (E.post self.now.expr) (M.pre self.now.member) (M.post self.now.member) (S.pre self.now.stmt) (S.post self.now.stmt) }
         ensures { Reads (ex.target_chain 1 self.now.left (spec.within CHAINS self.now.left) found tokens.old) result tokens.new }
@@ -93,7 +96,7 @@ impl<
         requires { Deeper self.now.left (E.pre self.now.expr) (E.post self.now.expr) (M.pre self.now.member) (M.post self.now.member) (S.pre self.now.stmt) (S.post self.now.stmt) }
         ensures { Reads (ex.target_chain CHAINS self.now.left (spec.within CHAINS self.now.left) found tokens.old) result tokens.new }
     {
-        for _link in 0..CHAINS - 1 {
+        for _link in 0..CALLS {
             tokens.undenied(self.left)?;
             if let Some(mark) = tokens.eat_any(Set::Suffixes) {
                 found = self.suffix(tokens, found, mark)?;
