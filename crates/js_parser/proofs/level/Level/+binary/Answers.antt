@@ -17,18 +17,6 @@ pub binary-returns : goal.binary-returns
 unfolding binary chained
 binary-returns g t c = rw (turns.deeper (λ n. binary 64 c.args.self.now.left (within 64 c.args.self.now.left) c.args.in_is n c.args.tokens.now) c.args.levels (omega arith)) (search rules)
 
-pub operations-returns-in_err-operand : goal.operations-returns-in_err-operand
-operations-returns-in_err-operand g t c =
-    let e = turns.one_more (λ n. chain n None (among (operators c.args.in_is c.args.level)) (operand_of (binary 64 c.args.self.now.left (within 64 c.args.self.now.left) c.args.in_is c.args.level)) c.loop-link.found c.loop-link.tokens) 64 c.loop-link._link c.loop-link-test.true c.loop-link.invariant in
-    let f = links.link_taken (64 - (c.loop-link._link + 1)) None (among (operators c.args.in_is c.args.level)) (operand_of (binary 64 c.args.self.now.left (within 64 c.args.self.now.left) c.args.in_is c.args.level)) c.loop-link.found c.loop-link.tokens c.eat_any.new.self c.in-Some.mark.now (links.nothing_denied (next c.loop-link.tokens)) c.in-Some.ensures.0 c.in-Some.ensures.1 in
-    rw (sym e) (rw f (search rules))
-
-pub operations-returns-in_default : goal.operations-returns-in_default
-operations-returns-in_default g t c =
-    let e = turns.one_more (λ n. chain n None (among (operators c.args.in_is c.args.level)) (operand_of (binary 64 c.args.self.now.left (within 64 c.args.self.now.left) c.args.in_is c.args.level)) c.loop-link.found c.loop-link.tokens) 64 c.loop-link._link c.loop-link-test.true c.loop-link.invariant in
-    let f = links.link_ends (64 - (c.loop-link._link + 1)) None (among (operators c.args.in_is c.args.level)) (operand_of (binary 64 c.args.self.now.left (within 64 c.args.self.now.left) c.args.in_is c.args.level)) c.loop-link.found c.loop-link.tokens (links.nothing_denied (next c.loop-link.tokens)) c.in_default.ensures.0 in
-    rw (sym e) (rw f (search rules))
-
 pub operations-loop-link-preserved : goal.operations-loop-link-preserved
 operations-loop-link-preserved g t c =
     let e = turns.one_more (λ n. chain n None (among (operators c.args.in_is c.args.level)) (operand_of (binary 64 c.args.self.now.left (within 64 c.args.self.now.left) c.args.in_is c.args.level)) c.loop-link.found c.loop-link.tokens) 64 c.loop-link._link c.loop-link-test.true c.loop-link.invariant in
