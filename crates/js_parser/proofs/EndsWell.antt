@@ -13,4 +13,4 @@ onto t (u ∷ ts) w = w
 pub ends_well_from : (at : ℕ) (line : Bool) (text : Scalars) (ts : List Token) → AreTokensFrom at line text ts → EndsWell ts
 ends_well_from at line text ts (end a l) = refl
 ends_well_from at line text ts (gap a l breaks g rest all h more) = ends_well_from _ _ rest all more
-ends_well_from at line text ts (word a l kind value w rest all h more) = onto _ all (ends_well_from _ _ rest all more)
+ends_well_from at line text ts (word a l kind value w rest all h more) = onto (token_at a l kind value w) all (ends_well_from _ _ rest all more)

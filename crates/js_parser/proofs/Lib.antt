@@ -19,3 +19,4 @@ pub mod OneFault
 pub mod Parsed
 pub mod Links
 pub mod TargetLinks
+pub mod Deep

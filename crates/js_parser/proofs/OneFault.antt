@@ -52,8 +52,11 @@ kinds Unexpected TooDeep front a b = absurd (a b)
 kinds TooDeep Unexpected front a b = absurd (b a)
 kinds TooDeep TooDeep front a b = refl
 
+abbrev fault_of : ℕ → ParseKind → ParseFault
+fault_of at kind = record { at = at; kind = kind }
+
 same_fault : (f g : ParseFault) → f.at ≡ g.at → f.kind ≡ g.kind → f ≡ g
-same_fault f g a k = cc
+same_fault f g a k = ap (λ (x : ℕ). fault_of x f.kind) a ∙ ap (λ (x : ParseKind). fault_of g.at x) k
 
 one_of : (chains levels : ℕ) (ts : Tokens) (f g : ParseFault) (a : IsFirstFault chains levels ts f) (b : IsFirstFault chains levels ts g) → Meet a.before a.here b.before b.here → f ≡ g
 one_of chains levels ts f g a b (shorter x e) = absurd (a.over (past chains levels a.before a.here x b.before e b.viable))

@@ -13,7 +13,7 @@ use js_syntax::{Expr, Property, Stmt, Symbol};
 use std::alloc::Global;
 
 /// Whether such a part begins here.
-fn begins_part(tokens: &Cursor<'_>, part: Part) -> bool
+pub fn begins_part(tokens: &Cursor<'_>, part: Part) -> bool
     ensures { result ≡ sees (begins_part part) (next tokens.now) }
 {
     match part {
@@ -23,7 +23,7 @@ fn begins_part(tokens: &Cursor<'_>, part: Part) -> bool
 }
 
 /// Whether such a statement begins here.
-fn begins_form(tokens: &Cursor<'_>, form: Form, in_function: bool, in_loop: bool) -> bool
+pub fn begins_form(tokens: &Cursor<'_>, form: Form, in_function: bool, in_loop: bool) -> bool
     ensures { result ≡ sees (begins_form form in_function in_loop) (next tokens.now) }
 {
     match form {
