@@ -24,8 +24,8 @@ refusal ts b = cond b (Err (TooDeep, ts)) (Err (Unexpected, ts))
 -- a part past the last level is refused by what begins it
 pub refused : {A : Type 0} (read : Outcome A) (q : Token → Bool) (ts : Tokens) (b : Bool) (e : Failed) → read ≡ not_taken q ts → b ≡ sees q (next ts)
     → e ≡ (if b then Fault TooDeep else Fault Unexpected) → Reads read (Err e) ts
-refused {A} read q ts true e h k m = subst (λ (x : Failed). Reads read (Err x) ts) (sym m) (h ∙ ap (λ (b : Bool). refusal {A} ts b) (sym k))
-refused {A} read q ts false e h k m = subst (λ (x : Failed). Reads read (Err x) ts) (sym m) (h ∙ ap (λ (b : Bool). refusal {A} ts b) (sym k))
+refused {A = A} read q ts true e h k m = subst (λ (x : Failed). Reads read (Err x) ts) (sym m) (h ∙ ap (λ (b : Bool). refusal {A = A} ts b) (sym k))
+refused {A = A} read q ts false e h k m = subst (λ (x : Failed). Reads read (Err x) ts) (sym m) (h ∙ ap (λ (b : Bool). refusal {A = A} ts b) (sym k))
 
 none_part : (p : Part) (ts : Tokens) → part_of (within 64 0) p ts ≡ not_taken (begins_part p) ts
 unfolding within
