@@ -7,3 +7,4 @@ pub mod Finishes
 pub mod Nests
 pub mod Parts
 pub mod Pieces
+pub mod Heads

@@ -1,17 +1,46 @@
 //! `for` (ECMAScript, 14.7.4 and 14.7.5).
+ghost use Rattle.std.specs.Prelude.{◌≡◌, IfOk};
 ghost use Rattle.js_parser.specs.Reads.{Reads};
 ghost use Rattle.js_parser.specs.Nests.{Deeper};
-ghost use Rattle.token_readers.specs.Readers.{◌>>=◌, pure};
+ghost use Rattle.js_parser.specs.Heads as heads;
 ghost use Rattle.js_parser.specs.Statements as spec;
 
 use crate::cursor::{Cursor, Failed};
 use crate::functions::name;
 use crate::level::{CHAINS, Form, Level, Part};
 use crate::make;
-use base_text::Text;
 use js_syntax::{Declaration, Expr, ForStart, ForTarget, Property, Stmt, Symbol};
 use sqlite_items::Items;
-use std::alloc::Global;
+use std::alloc::{AllocError, Global};
+
+/// The head of a `for`.
+#[derive(Drop)]
+pub struct Head {
+    start: ForStart,
+    test: Option<Expr>,
+    step: Option<Expr>,
+}
+
+/// The head of a `for` over keys.
+#[derive(Drop)]
+pub struct KeysHead {
+    target: ForTarget,
+    object: Expr,
+}
+
+fn turned(alloc: Global, head: Head, body: Stmt) -> Result<Stmt, AllocError>
+    ensures { IfOk result (λ x. x ≡ Stmt.For head.start head.test head.step body) }
+{
+    let Head { start, test, step } = head;
+    make::turns(alloc, start, test, step, body)
+}
+
+fn turned_over(alloc: Global, head: KeysHead, body: Stmt) -> Result<Stmt, AllocError>
+    ensures { IfOk result (λ x. x ≡ Stmt.ForIn head.target head.object body) }
+{
+    let KeysHead { target, object } = head;
+    make::over_keys(alloc, target, object, body)
+}
 
 impl<
     E: Fn(Global, &mut Cursor<'_>, usize, Part) -> Result<Expr, Failed>,
@@ -37,15 +66,13 @@ impl<
         &self,
         tokens: &mut Cursor<'_>,
         in_function: bool,
-        start: ForStart,
-        test: Option<Expr>,
-        step: Option<Expr>,
+        head: Head,
     ) -> Result<Stmt, Failed>
         requires { Deeper self.now.left (E.pre self.now.expr) (E.post self.now.expr) (M.pre self.now.member) (M.post self.now.member) (S.pre self.now.stmt) (S.post self.now.stmt) }
-        ensures { Reads (((spec.within CHAINS self.now.left).stmt in_function true >>= λ x. pure (Stmt.For start test step x)) tokens.old) result tokens.new }
+        ensures { Reads (heads.for_body (spec.within CHAINS self.now.left) in_function head.start head.test head.step tokens.old) result tokens.new }
     {
         let body = self.stmt(tokens, in_function, true)?;
-        Ok(make::turns(self.alloc, start, test, step, body)?)
+        Ok(turned(self.alloc, head, body)?)
     }
 
     /// A `for` behind the second semicolon of its head.
@@ -57,10 +84,10 @@ impl<
         test: Option<Expr>,
     ) -> Result<Stmt, Failed>
         requires { Deeper self.now.left (E.pre self.now.expr) (E.post self.now.expr) (M.pre self.now.member) (M.post self.now.member) (S.pre self.now.stmt) (S.post self.now.stmt) }
-        ensures { Reads ((spec.optional CHAINS self.now.left (spec.within CHAINS self.now.left) Symbol.Close >>= λ c. (spec.within CHAINS self.now.left).stmt in_function true >>= λ x. pure (Stmt.For start test c x)) tokens.old) result tokens.new }
+        ensures { Reads (heads.for_step CHAINS self.now.left (spec.within CHAINS self.now.left) in_function start test tokens.old) result tokens.new }
     {
         let step = self.optional(tokens, Symbol::Close)?;
-        self.for_body(tokens, in_function, start, test, step)
+        self.for_body(tokens, in_function, Head { start, test, step })
     }
 
     /// A `for` behind the first semicolon of its head.
@@ -78,6 +105,20 @@ impl<
         self.for_step(tokens, in_function, start, test)
     }
 
+    /// A `for` over keys behind its head.
+    pub fn each_key(
+        &self,
+        tokens: &mut Cursor<'_>,
+        in_function: bool,
+        head: KeysHead,
+    ) -> Result<Stmt, Failed>
+        requires { Deeper self.now.left (E.pre self.now.expr) (E.post self.now.expr) (M.pre self.now.member) (M.post self.now.member) (S.pre self.now.stmt) (S.post self.now.stmt) }
+        ensures { Reads (heads.each_key (spec.within CHAINS self.now.left) in_function head.target head.object tokens.old) result tokens.new }
+    {
+        let body = self.stmt(tokens, in_function, true)?;
+        Ok(turned_over(self.alloc, head, body)?)
+    }
+
     /// A `for` over keys behind its `in`.
     #[tactic(auto, unfolding(crate::specs::Statements::over_keys))]
     pub fn over_keys(
@@ -91,8 +132,7 @@ impl<
     {
         let object = self.assign(tokens, true)?;
         tokens.expect(Symbol::Close)?;
-        let body = self.stmt(tokens, in_function, true)?;
-        Ok(make::over_keys(self.alloc, target, object, body)?)
+        self.each_key(tokens, in_function, KeysHead { target, object })
     }
 
     /// A `for` behind the first declaration of its head.
