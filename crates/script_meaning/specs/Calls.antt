@@ -43,7 +43,7 @@ new_value place (Primitive prim) = Refers (Own place)
 abbrev pub new_closure_row : Evaluator → Value → List Value → Meaning
 new_closure_row ev callee arguments m f c =
     get_row ev callee (codes "prototype") m f (bind (λ its. made (record { form = Plain; prototype = Some (new_prototype its); slots = [] }) (λ place m f.
-        called_row ev callee (Refers (Own place)) arguments m f (bind (λ value. c (Gives (new_value place value))) c)) c) c)
+    called_row ev callee (Refers (Own place)) arguments m f (bind (λ value. c (Gives (new_value place value))) c)) c) c)
 
 abbrev pub constructed_form : Evaluator → Option Form → Value → List Value → Meaning
 constructed_form ev (Some (Closure code scope)) callee arguments m f c = new_closure_row ev callee arguments m f c

@@ -61,7 +61,7 @@ abbrev pub function_row : Function → Option (List ℕ) → Context → Meaning
 function_row code None here m f c = function_made code here.scope (λ place. c (Gives (Refers (Own place)))) c m f
 function_row code (Some name) here m f c =
     scope_made (record { outer = here.scope; bindings = [] }) (λ s. function_made code (Some s) (λ place m f.
-        c (Gives (Refers (Own place))) (with_name m s name (Refers (Own place))) f) c) c m f
+    c (Gives (Refers (Own place))) (with_name m s name (Refers (Own place))) f) c) c m f
 
 -- `a.b` and `a[b]` (13.3.2)
 abbrev pub read_row : Evaluator → ExprForm → Context → Meaning
@@ -85,13 +85,13 @@ new_row ev e es here m f c = ev.expr e here m f (bind (λ callee m f. list_row e
 abbrev pub prefix_row : Evaluator → UpdateOp → Expr → Context → Meaning
 prefix_row ev op e here m f c =
     target_row ev (out-Expr e) here (λ target m f. read_target_row ev target here m f (bind (λ old m f. step_row op old m f (bind (λ value m f.
-        write_target_row ev target value here m f (follow (c (Gives value)) c)) c)) c)) m f c
+    write_target_row ev target value here m f (follow (c (Gives value)) c)) c)) c)) m f c
 
 -- `a++` gives the old value (13.4.2)
 abbrev pub postfix_row : Evaluator → UpdateOp → Expr → Context → Meaning
 postfix_row ev op e here m f c =
     target_row ev (out-Expr e) here (λ target m f. read_target_row ev target here m f (bind (λ old m f. step_row op old m f (bind (λ value m f.
-        write_target_row ev target value here m f (follow (c (Gives old)) c)) c)) c)) m f c
+    write_target_row ev target value here m f (follow (c (Gives old)) c)) c)) c)) m f c
 
 -- `typeof a`, `!a`, `+a`, `-a` (13.5)
 abbrev pub operator_row : Evaluator → UnaryOp → Expr → Context → Meaning
@@ -143,13 +143,13 @@ conditional_row ev a x y here m f c = ev.expr a here m f (bind (λ v. choose (tr
 abbrev pub assign_row : Evaluator → Expr → Expr → Context → Meaning
 assign_row ev a b here m f c =
     target_row ev (out-Expr a) here (λ target m f. ev.expr b here m f (bind (λ value m f.
-        write_target_row ev target value here m f (follow (c (Gives value)) c)) c)) m f c
+    write_target_row ev target value here m f (follow (c (Gives value)) c)) c)) m f c
 
 -- `a += b`: the target is read before the right side is evaluated, and written once (13.15.2)
 abbrev pub assign_by_row : Evaluator → BinaryOp → Expr → Expr → Context → Meaning
 assign_by_row ev op a b here m f c =
     target_row ev (out-Expr a) here (λ target m f. read_target_row ev target here m f (bind (λ old m f. ev.expr b here m f (bind (λ y m f.
-        binary_row op old y m f (bind (λ value m f. write_target_row ev target value here m f (follow (c (Gives value)) c)) c)) c)) c)) m f c
+    binary_row op old y m f (bind (λ value m f. write_target_row ev target value here m f (follow (c (Gives value)) c)) c)) c)) c)) m f c
 
 -- ---- the table of expressions
 

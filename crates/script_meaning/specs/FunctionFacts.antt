@@ -24,17 +24,21 @@ pub record Functions : Type 0 where
       ∷ say (call (member (ex.New (name (codes "F")) []) (codes "m")) []) ∷ []) (codes "2" ∷ []) Done 25
   -- var o = {get a() { return this.b; }, set a(x) { this.b = x + 1; }, b: 1}; o.a = 4; console.log(o.a);
   pub accessors : Does 30 10 (var_ (codes "o") (ex.Object (
-          property.Get (codes "a") (record { name = None; params = []; body = st.Return (Some (member ex.This (codes "b"))) ∷ [] })
-          ∷ property.Set (codes "a") (record { name = None; params = codes "x" ∷ []; body = do_ (assign (member ex.This (codes "b")) (ex.Binary binary.Add (name (codes "x")) (n 1))) ∷ [] })
-          ∷ property.Value (codes "b") (n 1) ∷ []))
+      property.Get (codes "a") (record { name = None; params = []; body = st.Return (Some (member ex.This (codes "b"))) ∷ [] })
+      ∷ property.Set (codes "a") (record { name = None; params = codes "x" ∷ []; body = do_ (assign (member ex.This (codes "b")) (ex.Binary binary.Add (name (codes "x")) (n 1))) ∷ [] })
+      ∷ property.Value (codes "b") (n 1) ∷ []))
       ∷ do_ (assign (member (name (codes "o")) (codes "a")) (n 4)) ∷ say (member (name (codes "o")) (codes "a")) ∷ []) (codes "5" ∷ []) Done 24
   -- var b = Object.create({k: 1}); console.log(b.k); console.log("k" in b); console.log(b.hasOwnProperty("k"));
   pub inherited : Does 40 8 (var_ (codes "b") (call (member (name (codes "Object")) (codes "create")) (ex.Object (property.Value (codes "k") (n 1) ∷ []) ∷ []))
       ∷ say (member (name (codes "b")) (codes "k")) ∷ say (ex.In (ex.Str (codes "k")) (name (codes "b")))
       ∷ say (call (member (name (codes "b")) (codes "hasOwnProperty")) (ex.Str (codes "k") ∷ [])) ∷ []) (codes "1" ∷ codes "true" ∷ codes "false" ∷ []) Done 33
   -- console.log((function f(n) { return n ? n + f(n - 1) : 0; })(2));
-  pub named : Does 40 20 (say (call (ex.Function (record { name = Some (codes "f"); params = codes "n" ∷ []; body =
-          st.Return (Some (ex.Conditional (name (codes "n")) (ex.Binary binary.Add (name (codes "n")) (call (name (codes "f")) (ex.Binary binary.Subtract (name (codes "n")) (n 1) ∷ []))) (n 0))) ∷ [] }))
+  pub named : Does 40 20 (say (call (ex.Function (record {
+    name = Some (codes "f");
+    params = codes "n" ∷ [];
+    body =
+        st.Return (Some (ex.Conditional (name (codes "n")) (ex.Binary binary.Add (name (codes "n")) (call (name (codes "f")) (ex.Binary binary.Subtract (name (codes "n")) (n 1) ∷ []))) (n 0))) ∷ [];
+  }))
       (n 2 ∷ [])) ∷ []) (codes "3" ∷ []) Done 33
   -- function f(a, b) { return typeof b; } console.log(f(1));
   pub missing : Does 20 10 (declared (codes "f") (codes "a" ∷ codes "b" ∷ []) (st.Return (Some (ex.Unary unary.TypeOf (name (codes "b")))) ∷ [])

@@ -24,7 +24,7 @@ prototype_cell place = record {
 abbrev pub function_made : Function → Option ℕ → With ℕ → Cont → Rest
 function_made code scope k c =
     made (closure_cell code scope) (λ place. made (prototype_cell place) (λ its m f.
-        define_row (Own place) (codes "prototype") (Datum (Refers (Own its)) true false) m f (follow (k place) c)) c) c
+    define_row (Own place) (codes "prototype") (Datum (Refers (Own its)) true false) m f (follow (k place) c)) c) c
 
 abbrev pub name_or_none : Option (List ℕ) → List ℕ
 name_or_none None = []
@@ -33,7 +33,6 @@ name_or_none (Some name) = name
 -- a declared function has a name
 abbrev pub own_name : Function → List ℕ
 own_name code = name_or_none code.name
-
 
 -- the functions of a body are made and declared, in order (ECMAScript, 10.2.11)
 abbrev pub declare_functions_row : Option ℕ → List Function → Meaning
@@ -71,5 +70,5 @@ from_body c done = c (Gives undefined)
 abbrev pub closure_row : Evaluator → Function → Option ℕ → Value → List Value → Meaning
 closure_row ev code scope this arguments m f c =
     scope_made (call_scope code scope arguments) (λ s m f.
-        declare_functions_row (Some s) (functions code.body) m f (follow (λ m f.
-            block_row ev code.body (record { scope = Some s; this = this }) m f (from_body c)) c)) c m f
+    declare_functions_row (Some s) (functions code.body) m f (follow (λ m f.
+    block_row ev code.body (record { scope = Some s; this = this }) m f (from_body c)) c)) c m f

@@ -86,18 +86,18 @@ described ev d enumerable true k c m f =
     part_read ev d (codes "get") (λ get. part_read ev d (codes "set") (λ set. k (Accessor get set enumerable)) c) c m f
 described ev d enumerable false k c m f =
     get_row ev d (codes "value") m f (bind (λ value m f. get_row ev d (codes "writable") m f (bind (λ writable.
-        k (Datum value (truth writable) enumerable)) c)) c)
+    k (Datum value (truth writable) enumerable)) c)) c)
 
 abbrev pub descriptor_row : Evaluator → Reference → With Property → Cont → Rest
 descriptor_row ev d k c m f =
     get_row ev (Refers d) (codes "enumerable") m f (bind (λ enumerable. has_row d (codes "get") (λ get. has_row d (codes "set") (λ set.
-        described ev (Refers d) (truth enumerable) (get || set) k c))) c)
+    described ev (Refers d) (truth enumerable) (get || set) k c))) c)
 
 -- Object.defineProperty(o, k, d) (20.1.2.4)
 abbrev pub define_property_row : Evaluator → Value → Value → Value → Meaning
 define_property_row ev o key d m f c =
     reference_of o (λ r. key_row key (λ key. reference_of d (λ d. descriptor_row ev d (λ property m f.
-        define_row r key property m f (follow (c (Gives (Refers r))) c)) c) c) c) c m f
+    define_row r key property m f (follow (c (Gives (Refers r))) c)) c) c) c) c m f
 
 -- hasOwnProperty(k) (20.1.3.2)
 abbrev pub has_own_row : Value → Value → Meaning
@@ -232,8 +232,8 @@ error_row name value m f c =
 abbrev pub error_text_row : Evaluator → Value → Meaning
 error_text_row ev this m f c =
     get_row ev this (codes "name") m f (bind (λ name. text_argument name (λ name m f.
-        get_row ev this (codes "message") m f (bind (λ message. text_argument message (λ message m f.
-            text_answer (name ++ (codes ": " ++ message)) m f c) c) c)) c) c)
+    get_row ev this (codes "message") m f (bind (λ message. text_argument message (λ message m f.
+    text_answer (name ++ (codes ": " ++ message)) m f c) c) c)) c) c)
 
 -- ---- the table of the built-ins
 

@@ -70,7 +70,6 @@ does e = st.Expression e
 abbrev writes : Expr → Expr → Stmt
 writes target e = st.Expression (ex.Assign target e)
 
-
 abbrev when : Expr → List Stmt → Stmt
 when e body = st.If e (st.Block body) None
 
@@ -142,7 +141,7 @@ join = of (codes "s" ∷ []) (
     st.Var (begun (codes "t") (ex.Str []) ∷ bare (codes "v") ∷ bare (codes "u") ∷ [])
     ∷ sets s binary.Same u (ex.Str (codes ","))
     ∷ each (writes v item ∷ when (is i binary.Greater (ex.Number 0)) (writes t (plus t s) ∷ [])
-        ∷ when (ex.And (is v binary.NotSame u) (is v binary.NotSame ex.Null)) (writes t (plus t v) ∷ []) ∷ [])
+    ∷ when (ex.And (is v binary.NotSame u) (is v binary.NotSame ex.Null)) (writes t (plus t v) ∷ []) ∷ [])
     ∷ returns t ∷ [])
 
 -- function (b) { var r = []; L { r[i] = this[i]; } for (i = 0; i < b.length; i = i + 1) { r[r.length] = b[i]; } return r; }
@@ -150,5 +149,5 @@ abbrev pub concat : Function
 concat = of (codes "b" ∷ []) (
     st.Var (begun (codes "r") (ex.Array []) ∷ []) ∷ each (writes (ex.Index r i) item ∷ [])
     ∷ st.For (start.Expression (ex.Assign i (ex.Number 0))) (Some (is i binary.Less (length_of b))) (Some (ex.Assign i (plus i (ex.Number 1))))
-        (st.Block (appends (ex.Index b i) ∷ []))
+    (st.Block (appends (ex.Index b i) ∷ []))
     ∷ returns r ∷ [])

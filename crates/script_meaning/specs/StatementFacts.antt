@@ -21,7 +21,7 @@ pub record Statements : Type 0 where
       ∷ say (name (codes "i")) ∷ []) (codes "3" ∷ []) Done 40
   -- for (var i = 0; ; i++) { if (i === 1) continue; if (i === 3) break; console.log(i); }
   pub jumps : Does 60 8 (st.For (start.Var (record { name = codes "i"; value = Some (n 0) } ∷ [])) None (Some (ex.Postfix Increment (name (codes "i")))) (st.Block (
-          st.If (ex.Binary binary.Same (name (codes "i")) (n 1)) st.Continue None ∷ st.If (ex.Binary binary.Same (name (codes "i")) (n 3)) st.Break None ∷ say (name (codes "i")) ∷ []))
+      st.If (ex.Binary binary.Same (name (codes "i")) (n 1)) st.Continue None ∷ st.If (ex.Binary binary.Same (name (codes "i")) (n 3)) st.Break None ∷ say (name (codes "i")) ∷ []))
       ∷ []) (codes "0" ∷ codes "2" ∷ []) Done 53
   -- var o = {a: 1, b: 2}; for (var k in o) { delete o.b; o.c = 3; console.log(k); }
   pub keys : Does 50 8 (var_ (codes "o") (ex.Object (property.Value (codes "a") (n 1) ∷ property.Value (codes "b") (n 2) ∷ []))

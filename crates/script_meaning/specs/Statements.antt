@@ -61,7 +61,7 @@ abbrev pub turns : Evaluator → Option Expr → Option Expr → Stmt → ℕ �
 turns ev test step x zero here m f c = c (Halts Fuel) m 0
 turns ev test step x (suc n) here m f c =
     test_row ev test here (λ goes. choose goes (λ m f. ev.stmt x here m f (after_turn (λ m f. step_row ev step here m f (follow (λ m f.
-        turns ev test step x n here m f c) c)) c)) (c Ends)) m f c
+    turns ev test step x n here m f c) c)) c)) (c Ends)) m f c
 
 -- what stands first in the head of a `for` (14.7.4.2)
 abbrev pub start_row : Evaluator → StartForm → Context → Meaning
@@ -115,7 +115,7 @@ throw_row ev e here m f c = ev.expr e here m f (bind (λ value. c (Throws value)
 abbrev pub caught : Evaluator → Option Catch → Context → Cont → Cont
 caught ev (Some handler) here c (Throws value) =
     scope_made (record { outer = here.scope; bindings = record { name = handler.name; value = value } ∷ [] }) (λ s m f.
-        ev.stmt handler.block (record { scope = Some s; this = here.this }) m f c) c
+    ev.stmt handler.block (record { scope = Some s; this = here.this }) m f c) c
 caught ev handler here c done = c done
 
 -- after a `finally` that came to its end what was before goes on, and else its own end takes the place (14.15.3)

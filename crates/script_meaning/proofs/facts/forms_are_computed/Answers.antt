@@ -20,5 +20,18 @@ use Rattle.script_meaning.proofs.facts.forms_are_computed.Goals as goal
 pub returns : goal.returns
 unfolding encode_utf8 digits evaluator with_level found_within bound_within within is_above fresh left out-Expr out-ForStart out-ForTarget out-Property out-Stmt out shown hidden b.shown-the_row-Expr-0 b.shown-the_row-Property-1 b.shown-the_row-Stmt-2 b.shown-the_row-Function-3 b.shown-the_row-Expr-4 b.shown-the_row-Declaration-5 b.shown-the_row-Stmt-6
 returns c = record {
-  counted = refl; converted = refl; instances = refl; either = refl; empty = refl; this_ = refl; nothing = refl; kinds = refl; text_parts = refl; order = refl; deleted_name = refl; last = refl; plain_call = refl; broken = refl;
+  counted = refl;
+  converted = refl;
+  instances = refl;
+  either = refl;
+  empty = refl;
+  this_ = refl;
+  nothing = refl;
+  kinds = refl;
+  text_parts = refl;
+  order = refl;
+  deleted_name = refl;
+  last = refl;
+  plain_call = refl;
+  broken = refl;
 }

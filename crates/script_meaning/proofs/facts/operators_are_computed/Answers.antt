@@ -20,5 +20,14 @@ use Rattle.script_meaning.proofs.facts.operators_are_computed.Goals as goal
 pub returns : goal.returns
 unfolding encode_utf8 digits evaluator with_level found_within bound_within within is_above fresh left out-Expr out-ForStart out-ForTarget out-Property out-Stmt out shown hidden b.shown-the_row-Expr-0 b.shown-the_row-Property-1 b.shown-the_row-Stmt-2 b.shown-the_row-Function-3 b.shown-the_row-Expr-4 b.shown-the_row-Declaration-5 b.shown-the_row-Stmt-6
 returns c = record {
-  sum = refl; chain = refl; inexact = refl; too_great = refl; remainder = refl; divided = refl; type_of_none = refl; no_name = refl; of_null = refl; unneeded = refl;
+  sum = refl;
+  chain = refl;
+  inexact = refl;
+  too_great = refl;
+  remainder = refl;
+  divided = refl;
+  type_of_none = refl;
+  no_name = refl;
+  of_null = refl;
+  unneeded = refl;
 }

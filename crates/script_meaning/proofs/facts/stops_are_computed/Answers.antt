@@ -20,5 +20,14 @@ use Rattle.script_meaning.proofs.facts.stops_are_computed.Goals as goal
 pub returns : goal.returns
 unfolding encode_utf8 digits evaluator with_level found_within bound_within within is_above fresh left out-Expr out-ForStart out-ForTarget out-Property out-Stmt out shown hidden b.shown-the_row-Expr-0 b.shown-the_row-Property-1 b.shown-the_row-Stmt-2 b.shown-the_row-Function-3 b.shown-the_row-Expr-4 b.shown-the_row-Declaration-5 b.shown-the_row-Stmt-6
 returns c = record {
-  endless = refl; no_finally = refl; enough = refl; too_few = refl; shallow = refl; recursion = refl; full = refl; uncaught = refl; error = refl; object = refl;
+  endless = refl;
+  no_finally = refl;
+  enough = refl;
+  too_few = refl;
+  shallow = refl;
+  recursion = refl;
+  full = refl;
+  uncaught = refl;
+  error = refl;
+  object = refl;
 }
