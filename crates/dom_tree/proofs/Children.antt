@@ -1,5 +1,5 @@
 -- A node's children are nodes.
-use Rattle.std.proofs.Common.{◌≡◌, ◌<◌, subst, sym, ℕ, true, false, arith, List, [], ◌∷◌, length, slice_index_or}
+use Rattle.std.proofs.Common.{◌≡◌, ◌<◌, subst, ℕ, true, false, arith, List, [], ◌∷◌, length, slice_index_or}
 use Rattle.door.specs.Forest.{Forest, IsForest, children_of, is_among}
 use Rattle.dom_tree.proofs.LevelLemmas.{is_among-at}
 

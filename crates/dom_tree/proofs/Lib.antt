@@ -1,6 +1,10 @@
+pub mod Blocks
 pub mod Children
 pub mod Closing
+pub mod Copied
+pub mod CopySteps
 pub mod CountLemmas
+pub mod Counted
 pub mod Gathered
 pub mod LevelLemmas
 pub mod Lists

@@ -44,7 +44,7 @@ one_of y maker = cond (nat_eq y.maker.0 maker.0) 1 0
 pub made_by-append : (f g : Forest) (maker : Actor) → made_by (f ++ g) maker ≡ made_by f maker + made_by g maker
 made_by-append f g maker = sum_by-append (λ y. one_of y maker) f g
 
-made_by-cons : (y : Node) (f : Forest) (maker : Actor) → made_by (y ∷ f) maker ≡ one_of y maker + made_by f maker
+pub made_by-cons : (y : Node) (f : Forest) (maker : Actor) → made_by (y ∷ f) maker ≡ one_of y maker + made_by f maker
 made_by-cons y f maker = made_by-append (y ∷ []) f maker ∙ ap (λ n. n + made_by f maker) (zero-add (one_of y maker))
 
 pub made_by-set : (f : Forest) (n : ℕ) (x : Node) (maker : Actor) → n < length f → x.maker ≡ (node_at f n).maker → made_by (slice_set f n x) maker ≡ made_by f maker

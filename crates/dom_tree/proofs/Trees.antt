@@ -106,6 +106,11 @@ pub tree_with : (f g : Forest) (above rows : List (Option ℕ)) (tally counts : 
 tree_with f g above rows tally counts maker form plain small nodes same raised t =
     subst (λ (h : Forest). IsTree h rows counts) (sym nodes) (subst (λ (r : List (Option ℕ)). IsTree (created f maker form) r counts) (sym same) (tree-pushed f above tally counts maker form plain small raised t))
 
+-- a node more, which is no document and has no children
+pub tree_with_node : (f g : Forest) (above rows : List (Option ℕ)) (tally counts : List (Actor × ℕ)) (x : Node) → x.children ≡ [] → is_document x.form ≡ false → length f + 1 < 2 ^ 32 → g ≡ f ++ x ∷ [] → rows ≡ above ++ None ∷ [] → IsRaised tally counts x.maker 1 → IsTree f above tally → IsTree g rows counts
+tree_with_node f g above rows tally counts x leaf plain small nodes same raised t =
+    subst (λ (h : Forest). IsTree h rows counts) (sym nodes) (subst (λ (r : List (Option ℕ)). IsTree (f ++ x ∷ []) r counts) (sym same) (tree-pushed_node f above tally counts x leaf plain small raised t))
+
 pub is_document-form_of : (form : NodeForm) → is_document (form_of form) ≡ false
 is_document-form_of (Element tag) = refl
 is_document-form_of (Str text) = refl

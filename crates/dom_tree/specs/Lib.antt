@@ -1,4 +1,5 @@
 pub mod Above
+pub mod Copies
 pub mod Counts
 pub mod Forms
 pub mod Ids

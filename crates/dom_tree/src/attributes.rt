@@ -1,11 +1,12 @@
 //! Attributes in order, by name and value.
 
-ghost use Rattle.std.specs.Prelude.{◌≡◌, OnOk, OnErr, position};
+ghost use Rattle.std.specs.Prelude.{◌≡◌, IfOk, OnOk, OnErr, position};
 ghost use Rattle.door.specs.Forest.{has_name};
 ghost use Rattle.door.specs.Changes.{set_in, dropped_from};
 ghost use Rattle.dom_tree.specs.Places.{is_named};
 
 use base_text::{Mem, Text};
+use std::alloc::Global;
 
 /// The place of the first attribute of a name.
 pub fn place_of(attributes: &[(Text, Text)], name: &Text) -> Option<usize>
@@ -35,4 +36,15 @@ pub fn drop_name(attributes: &mut Vec<(Text, Text)>, name: &Text) -> bool
     let there = place_of(attributes, name).is_some();
     attributes.retain(|attribute| attribute.0 != *name);
     there
+}
+
+/// The same attributes once more.
+pub fn shared(alloc: Global, attributes: &[(Text, Text)]) -> Mem<Vec<(Text, Text)>>
+    ensures { IfOk result (λ copy. copy.items ≡ attributes.now) }
+{
+    let mut copy = Vec::new(alloc);
+    for attribute in attributes {
+        copy.push((attribute.0.share()?, attribute.1.share()?))?;
+    }
+    Ok(copy)
 }

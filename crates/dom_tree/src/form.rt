@@ -1,6 +1,8 @@
 //! How a node is named, what it is, and why a call on the tree is refused.
 
-use base_text::{NoMemory, Text};
+ghost use Rattle.std.specs.Prelude.{◌≡◌, IfOk};
+
+use base_text::{Mem, NoMemory, Text};
 use std::alloc::{AllocError, AllocFailed};
 
 /// A node of a tree, by the number of its making; the document is 0.
@@ -16,6 +18,19 @@ pub enum NodeForm {
     Str(Text),
     /// A comment.
     Comment(Text),
+}
+
+impl NodeForm {
+    /// The same form once more.
+    pub(crate) fn share(&self) -> Mem<NodeForm>
+        ensures { IfOk result (λ form. form ≡ self.now) }
+    {
+        match self {
+            NodeForm::Element(tag) => Ok(NodeForm::Element(tag.share()?)),
+            NodeForm::Str(text) => Ok(NodeForm::Str(text.share()?)),
+            NodeForm::Comment(text) => Ok(NodeForm::Comment(text.share()?)),
+        }
+    }
 }
 
 /// Why a call on the tree is refused.

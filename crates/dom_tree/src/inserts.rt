@@ -84,9 +84,14 @@ fn is_misfit(nodes: &[Stored], parent: u32, node: u32) -> bool
 {
     let child = &nodes[node as usize];
     let above = &nodes[parent as usize];
-    let has_element = any_element(nodes, above.children());
-    child.is_document()
-        || above.is_document() && (child.is_text() || child.is_element() && has_element)
+    if child.is_document() {
+        return true;
+    }
+    if !above.is_document() {
+        return false;
+    }
+    // Only the document's children are looked through, so that other parents take each child at once.
+    child.is_text() || child.is_element() && any_element(nodes, above.children())
 }
 
 /// Whether one of these nodes is an element.

@@ -4,6 +4,8 @@
 mod above;
 mod attributes;
 mod changes;
+mod clones;
+mod copies;
 mod counts;
 mod form;
 mod inserts;

@@ -10,6 +10,14 @@ use crate::tree::Tree;
 use base_text::{Mem, Text};
 
 impl Tree {
+    /// The attributes of a node in order, each by its name and its value. It takes no memory.
+    pub fn attributes(&self, n: NodeId) -> &[(Text, Text)]
+        requires { n.0 < length self.now }
+        ensures { result.now ≡ attributes_of self.now n.0 }
+    {
+        self.nodes[n.0 as usize].attributes()
+    }
+
     /// Sets the attribute of a name, which goes last where it is new (DOM, set an attribute value). A
     /// call that finds no memory changes nothing.
     pub fn set_attr(&mut self, node: NodeId, name: &Text, value: &Text) -> Mem<()>

@@ -7,6 +7,7 @@ ghost use Rattle.door.specs.declared.values.Actor.{Actor as AnyActor};
 ghost use Rattle.dom_tree.specs.Counts.{count_in, IsRaised};
 ghost use Rattle.dom_tree.specs.Forms.{data_in};
 
+use crate::copies::Copies;
 use crate::counts::{make_room, raise};
 use crate::stored::Stored;
 use base_text::{Mem, Text};
@@ -131,5 +132,31 @@ pub fn add_node(
     nodes.push(node)?;
     parents.push(None)?;
     raise(counts, maker, 1);
+    Ok(())
+}
+
+/// Adds nodes of one maker with their parents, and counts them.
+pub fn add_nodes(
+    nodes: &mut Vec<Stored>,
+    parents: &mut Vec<Option<u32>>,
+    counts: &mut Vec<(Actor, u32)>,
+    maker: Actor,
+    more: &mut Copies,
+) -> Mem<()>
+    requires { count_in counts.old.items maker + length more.old.nodes.items < 2 ^ 32 }
+    ensures nodes { OnOk result (nodes.new.items ≡ nodes.old.items ++ more.old.nodes.items) }
+    ensures parents { OnOk result (parents.new.items ≡ parents.old.items ++ more.old.parents.items) }
+    ensures counts { OnOk result (IsRaised counts.old.items counts.new.items maker (length more.old.nodes.items)) }
+    ensures no_nodes { OnErr result (nodes.new.items ≡ nodes.old.items) }
+    ensures no_parents { OnErr result (parents.new.items ≡ parents.old.items) }
+    ensures no_counts { OnErr result ((other : AnyActor) → count_in counts.new.items other ≡ count_in counts.old.items other) }
+{
+    let count = more.nodes.len() as u32;
+    nodes.reserve(more.nodes.len())?;
+    parents.reserve(more.parents.len())?;
+    make_room(counts, maker)?;
+    nodes.append(&mut more.nodes)?;
+    parents.append(&mut more.parents)?;
+    raise(counts, maker, count);
     Ok(())
 }

@@ -1,12 +1,12 @@
 //! A node as the tree keeps it, which contracts see as a node of the forest.
 
-ghost use Rattle.std.specs.Prelude.{◌≡◌, ◌↔◌, [], ◌∷◌, ◌++◌, true, IsTrue, OnOk, OnErr, slice_get};
+ghost use Rattle.std.specs.Prelude.{◌≡◌, ◌↔◌, [], ◌∷◌, ◌++◌, true, IsTrue, IfOk, OnOk, OnErr, slice_get};
 ghost use Rattle.std.specs.Option.{option_copied};
 ghost use Rattle.door.specs.Forest.{new_node, is_document, is_element, is_text, takes_children, is_among, attribute_in, has_name};
 ghost use Rattle.door.specs.Changes.{without, placed, set_in, dropped_from};
 ghost use Rattle.dom_tree.specs.Forms.{form_or_document, pair_copied, data_in, is_comment};
 
-use crate::attributes::{drop_name, place_of, set_value};
+use crate::attributes::{drop_name, place_of, set_value, shared};
 use crate::form::NodeForm;
 use crate::numbers::{put, shift, take_out};
 use base_text::{Mem, Text};
@@ -44,6 +44,22 @@ impl Stored {
             attributes: Vec::new(alloc),
             children: Vec::new(alloc),
         }
+    }
+
+    /// The same node once more, of another maker and without its children.
+    pub fn copied(&self, alloc: Global, maker: Actor) -> Mem<Stored>
+        ensures { IfOk result (λ copy. copy ≡ record self.now { maker = maker; children = [] }) }
+    {
+        let form = match &self.form {
+            Some(form) => Some(form.share()?),
+            None => None,
+        };
+        Ok(Stored {
+            maker,
+            form,
+            attributes: shared(alloc, &self.attributes)?,
+            children: Vec::new(alloc),
+        })
     }
 
     /// What it is, and none for the document.
@@ -134,6 +150,13 @@ impl Stored {
         ensures { result ≡ is_comment self.now.form }
     {
         matches!(self.form, Some(NodeForm::Comment(_)))
+    }
+
+    /// Its attributes in order.
+    pub fn attributes(&self) -> &[(Text, Text)]
+        ensures { result.now ≡ self.now.attributes }
+    {
+        self.attributes.as_slice()
     }
 
     /// The name and the value of the attribute at a place, from 0.

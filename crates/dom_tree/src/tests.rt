@@ -43,10 +43,22 @@ fn write(rt: &impl Abort, tree: &mut Tree, node: u32, t: &Text) -> Result<(), Tr
     tree.set_text(PAGE, NodeId(node), t)
 }
 
-fn set(rt: &impl Abort, tree: &mut Tree, name: &Text, value: &Text) -> Result<(), Fail> {
-    assert!(rt; 2 < tree.count());
-    assert!(rt; matches!(tree.form(NodeId(2)), Some(NodeForm::Element(_))));
-    tree.set_attr(NodeId(2), name, value)?;
+fn copy(
+    rt: &impl Abort,
+    tree: &mut Tree,
+    maker: Actor,
+    node: u32,
+    deep: bool,
+) -> Result<NodeId, TreeFault> {
+    assert!(rt; 0 < node && node < tree.count());
+    assert!(rt; tree.count() < 1_000_000);
+    tree.clone_node(maker, NodeId(node), deep)
+}
+
+fn set(rt: &impl Abort, tree: &mut Tree, node: u32, name: &Text, value: &Text) -> Result<(), Fail> {
+    assert!(rt; node < tree.count());
+    assert!(rt; matches!(tree.form(NodeId(node)), Some(NodeForm::Element(_))));
+    tree.set_attr(NodeId(node), name, value)?;
     Ok(())
 }
 
@@ -56,10 +68,21 @@ fn unset(rt: &impl Abort, tree: &mut Tree, name: &Text) -> bool {
     tree.drop_attr(NodeId(2), name)
 }
 
-fn has(rt: &impl Abort, tree: &Tree, at: u32, name: &Text, value: &Text) -> bool {
-    assert!(rt; 2 < tree.count());
-    assert!(rt; matches!(tree.form(NodeId(2)), Some(NodeForm::Element(_))));
-    tree.attr_at(NodeId(2), at) == Some((name, value)) && tree.attr(NodeId(2), name) == Some(value)
+fn has(rt: &impl Abort, tree: &Tree, node: u32, at: u32, name: &Text, value: &Text) -> bool {
+    assert!(rt; node < tree.count());
+    assert!(rt; matches!(tree.form(NodeId(node)), Some(NodeForm::Element(_))));
+    tree.attr_at(NodeId(node), at) == Some((name, value))
+        && tree.attr(NodeId(node), name) == Some(value)
+}
+
+fn above(rt: &impl Abort, tree: &Tree, node: u32) -> Option<NodeId> {
+    assert!(rt; node < tree.count());
+    tree.parent(NodeId(node))
+}
+
+fn under(rt: &impl Abort, tree: &Tree, node: u32, children: &[u32]) -> bool {
+    assert!(rt; node < tree.count());
+    tree.children(NodeId(node)) == children
 }
 
 fn reads(rt: &impl Abort, tree: &Tree, node: u32, t: &str, under: usize) -> Result<bool, Fail> {
@@ -122,6 +145,142 @@ fn insertions_are_refused_in_order(rt: HostRuntime) -> Result<(), Fail> {
 }
 
 #[test]
+fn kinds_stand_in_kinds(rt: HostRuntime) -> Result<(), Fail> {
+    let alloc = rt.alloc();
+    let refused = Err(TreeFault::Hierarchy);
+    // what stands in the document 0, an element, a text and a comment: these four again
+    let cases = [
+        (0, [refused, Ok(()), refused, Ok(())]),
+        (1, [refused, Ok(()), Ok(()), Ok(())]),
+        (2, [refused, refused, refused, refused]),
+        (3, [refused, refused, refused, refused]),
+    ];
+    for (parent, wants) in cases {
+        for (child, want) in [0, 4, 5, 6].into_iter().zip(wants) {
+            let mut tree = Tree::new(alloc)?;
+            for _ in 0..2 {
+                make(&rt, &mut tree, PAGE, NodeForm::Element(text(alloc, "p")?))?;
+                make(&rt, &mut tree, PAGE, NodeForm::Str(text(alloc, "t")?))?;
+                make(&rt, &mut tree, PAGE, NodeForm::Comment(text(alloc, "c")?))?;
+            }
+            assert_eq!(rt; put(&rt, &mut tree, parent, child, None), want);
+            let count = if want == Ok(()) { 1 } else { 0 };
+            assert!(rt; under(&rt, &tree, parent, &[child][..count]));
+        }
+    }
+    Ok(())
+}
+
+#[test]
+fn children_move_within_their_parent(rt: HostRuntime) -> Result<(), Fail> {
+    let alloc = rt.alloc();
+    // the children 1, 2, 3 of the document, one of which moves
+    let cases = [
+        (1, Some(3), [2, 1, 3]),
+        (1, None, [2, 3, 1]),
+        (1, Some(2), [1, 2, 3]),
+        (2, Some(2), [1, 2, 3]),
+        (2, Some(1), [2, 1, 3]),
+        (3, Some(1), [3, 1, 2]),
+        (3, Some(2), [1, 3, 2]),
+        (3, None, [1, 2, 3]),
+    ];
+    for (node, before, want) in cases {
+        let mut tree = Tree::new(alloc)?;
+        for child in 1..=3 {
+            make(&rt, &mut tree, PAGE, NodeForm::Comment(text(alloc, "c")?))?;
+            put(&rt, &mut tree, 0, child, None)?;
+        }
+        put(&rt, &mut tree, 0, node, before.map(|n| NodeId(n)))?;
+        assert!(rt; under(&rt, &tree, 0, &want));
+    }
+    Ok(())
+}
+
+#[test]
+fn nodes_are_copied(rt: HostRuntime) -> Result<(), Fail> {
+    let alloc = rt.alloc();
+    let mut tree = grown(&rt, alloc)?;
+    let id = text(alloc, "id")?;
+    let class = text(alloc, "class")?;
+    for name in [&id, &class] {
+        set(&rt, &mut tree, 2, name, &id)?;
+    }
+    assert_eq!(rt; copy(&rt, &mut tree, HOST, 2, false), Ok(NodeId(7)));
+    assert_eq!(rt; copy(&rt, &mut tree, HOST, 1, true), Ok(NodeId(8)));
+    assert_eq!(rt; copy(&rt, &mut tree, HOST, 6, true), Ok(NodeId(13)));
+    assert_eq!(rt; tree.count(), 14);
+    // a change of the source leaves the copies
+    set(&rt, &mut tree, 2, &id, &class)?;
+    for (node, children) in [
+        (1, &[2, 3][..]),
+        (2, &[4]),
+        (7, &[]),
+        (8, &[9, 11]),
+        (9, &[10]),
+        (11, &[12]),
+        (13, &[]),
+    ] {
+        assert!(rt; under(&rt, &tree, node, children));
+    }
+    for node in [7, 9] {
+        assert!(rt; has(&rt, &tree, node, 0, &id, &id));
+        assert!(rt; has(&rt, &tree, node, 1, &class, &id));
+    }
+    for (node, parent) in [
+        (7, None),
+        (8, None),
+        (9, Some(8)),
+        (12, Some(11)),
+        (13, None),
+    ] {
+        assert_eq!(rt; above(&rt, &tree, node), parent.map(|n| NodeId(n)));
+    }
+    for (node, want, count) in [
+        (7, "", 0),
+        (8, "one two", 2),
+        (9, "one ", 1),
+        (13, "aside", 0),
+    ] {
+        assert!(rt; reads(&rt, &tree, node, want, count)?);
+    }
+    Ok(())
+}
+
+#[test]
+fn copies_are_counted(rt: HostRuntime) -> Result<(), Fail> {
+    let alloc = rt.alloc();
+    let mut tree = grown(&rt, alloc)?;
+    let tag = text(alloc, "p")?;
+    // the host has the document, and the page 6 nodes; a deep copy of node 1 has 5
+    for _ in 1..99_996 {
+        make(&rt, &mut tree, HOST, NodeForm::Element(tag.share()?))?;
+    }
+    let count = tree.count();
+    assert_eq!(rt;
+        copy(&rt, &mut tree, HOST, 1, true),
+        Err(TreeFault::NodeLimit)
+    );
+    assert_eq!(rt; tree.count(), count);
+    for _ in 0..4 {
+        assert!(rt; copy(&rt, &mut tree, HOST, 1, false).is_ok());
+    }
+    assert_eq!(rt;
+        copy(&rt, &mut tree, HOST, 1, false),
+        Err(TreeFault::NodeLimit)
+    );
+    for _ in 6..99_995 {
+        make(&rt, &mut tree, PAGE, NodeForm::Element(tag.share()?))?;
+    }
+    assert!(rt; copy(&rt, &mut tree, PAGE, 1, true).is_ok());
+    assert_eq!(rt;
+        copy(&rt, &mut tree, PAGE, 4, true),
+        Err(TreeFault::NodeLimit)
+    );
+    Ok(())
+}
+
+#[test]
 fn nodes_are_asked(rt: HostRuntime) -> Result<(), Fail> {
     let tree = grown(&rt, rt.alloc())?;
     assert!(rt; tree.count() == 7);
@@ -151,13 +310,13 @@ fn attributes_keep_their_places(rt: HostRuntime) -> Result<(), Fail> {
     let x = text(alloc, "x")?;
     let y = text(alloc, "y")?;
     for (name, value) in [(&id, &x), (&class, &x), (&id, &y)] {
-        set(&rt, &mut tree, name, value)?;
+        set(&rt, &mut tree, 2, name, value)?;
     }
-    assert!(rt; has(&rt, &tree, 0, &id, &y));
-    assert!(rt; has(&rt, &tree, 1, &class, &x));
+    assert!(rt; has(&rt, &tree, 2, 0, &id, &y));
+    assert!(rt; has(&rt, &tree, 2, 1, &class, &x));
     assert!(rt; unset(&rt, &mut tree, &id));
     assert!(rt; !unset(&rt, &mut tree, &id));
-    assert!(rt; has(&rt, &tree, 0, &class, &x));
+    assert!(rt; has(&rt, &tree, 2, 0, &class, &x));
     Ok(())
 }
 

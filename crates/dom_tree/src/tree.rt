@@ -2,7 +2,7 @@
 
 ghost use Rattle.std.specs.Prelude.{◌≡◌, ◌↔◌, ◌<◌, ◌^◌, IsTrue, IsNone, IfOk, length, slice_get, All};
 ghost use Rattle.std.specs.Option.{option_copied};
-ghost use Rattle.door.specs.Forest.{new_forest, form_at, attributes_of, attribute_of, children_of, parent_of, first_child_of, next_sibling_of, is_element};
+ghost use Rattle.door.specs.Forest.{IsForest, new_forest, form_at, attributes_of, attribute_of, children_of, parent_of, first_child_of, next_sibling_of, is_element};
 ghost use Rattle.dom_tree.specs.Forms.{form_or_document, pair_copied};
 ghost use Rattle.dom_tree.specs.Ids.{number_of};
 
@@ -56,6 +56,13 @@ impl Tree {
             counts,
             alloc,
         })
+    }
+
+    /// A law: the nodes are a forest.
+    pub fn is_a_forest(&self)
+        ensures { IsForest self.now }
+    {
+        let _ = &self.nodes;
     }
 
     /// How many nodes there are, the document among them.

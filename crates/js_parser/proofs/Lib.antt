@@ -13,3 +13,10 @@ pub mod Faults
 pub mod Whole
 pub mod Seen
 pub mod Turns
+pub mod Begun
+pub mod EndsWell
+pub mod OneFault
+pub mod Parsed
+pub mod Links
+pub mod TargetLinks
+pub mod Deep

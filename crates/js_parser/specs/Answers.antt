@@ -22,3 +22,9 @@ abbrev pub IfFault : Result Script (OrMemory ParseFault) → (ParseFault → Typ
 IfFault (Ok found) P = Unit {0}
 IfFault (Err NoMemory) P = Unit {0}
 IfFault (Err (Fault fault)) P = P fault
+
+-- this fault, unless memory ran out
+abbrev pub FaultOrMemory : Result Script (OrMemory ParseFault) → ParseFault → Type 0
+FaultOrMemory (Ok found) fault = ⊥
+FaultOrMemory (Err NoMemory) fault = Unit {0}
+FaultOrMemory (Err (Fault found)) fault = found ≡ fault

@@ -4,3 +4,7 @@ pub mod Answers
 pub mod Sets
 pub mod Reads
 pub mod Finishes
+pub mod Nests
+pub mod Parts
+pub mod Pieces
+pub mod Heads

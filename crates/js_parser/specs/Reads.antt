@@ -1,5 +1,5 @@
 -- What a function that reads ensures: what reading gives, unless memory ran out. The tokens that it leaves are those from the fault on.
-use Rattle.std.specs.Prelude.{◌≡◌, ℕ, Bool, true, false, not, List, [], ◌∷◌, Option, Some, None, Result, Ok, Err}
+use Rattle.std.specs.Prelude.{◌≡◌, ◌<◌, ℕ, Bool, true, false, not, List, [], ◌∷◌, Option, Some, None, Result, Ok, Err}
 use denote.Bor.{Bor}
 use Rattle.js_syntax.specs.declared.token.Token.{Token}
 use Rattle.js_syntax.specs.declared.symbol.Symbol.{Symbol}
@@ -39,3 +39,10 @@ abbrev pub Undenied : ℕ → Tokens → Result (Unit {0}) Failed → Type 0
 Undenied left ts (Ok u) = sees (denies (denied left)) (next ts) ≡ false
 Undenied left ts (Err NoMemory) = ⊥
 Undenied left ts (Err (Fault kind)) = (kind ≡ TooDeep) × (sees (denies (denied left)) (next ts) ≡ true)
+
+-- a token that begins a form with a part one level deeper is taken, unless no level is left
+abbrev pub Begins : ℕ → (Token → Bool) → Tokens → Result (Option (Bor Token)) Failed → Tokens → Type 0
+Begins left q old (Ok (Some t)) new = (0 < left) × ((old ≡ t.now ∷ new) × (q t.now ≡ true))
+Begins left q old (Ok None) new = (sees q (next old) ≡ false) × (new ≡ old)
+Begins left q old (Err NoMemory) new = ⊥
+Begins left q old (Err (Fault kind)) new = (left ≡ 0) × ((kind ≡ TooDeep) × ((sees q (next old) ≡ true) × (new ≡ old)))

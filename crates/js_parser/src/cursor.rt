@@ -5,10 +5,10 @@ ghost use Rattle.js_syntax.specs.Words.{closes_body, ends_line};
 ghost use Rattle.token_readers.specs.Readers.{expect};
 ghost use Rattle.js_parser.specs.Answers.{place};
 ghost use Rattle.js_parser.specs.Finishes.{Finishes};
-ghost use Rattle.js_parser.specs.Reads.{Reads, Undenied, Skips, Takes, symbol_at, on_line};
+ghost use Rattle.js_parser.specs.Reads.{Begins, Reads, Undenied, Skips, Takes, symbol_at, on_line};
 ghost use Rattle.js_parser.specs.Sets.{symbols_of};
 ghost use Rattle.js_parser.specs.Expressions.{parted};
-ghost use Rattle.js_parser.specs.Statements.{ends, halts, is_where};
+ghost use Rattle.js_parser.specs.Statements.{ends, halts, is_where, begins_nested, begins_word, begins_stmt};
 
 use crate::words::{Set, has, is};
 use base_text::NoMemory;
@@ -161,6 +161,16 @@ impl<'a> Cursor<'a> {
         None
     }
 
+    /// Takes the next token where it is such and may stand here.
+    pub fn eat_where(&mut self, symbol: Symbol, here: bool) -> Option<&'a Token>
+        ensures { Takes (is_where symbol here) self.old result self.new }
+    {
+        if self.sees_where(symbol, here) {
+            return self.skip();
+        }
+        None
+    }
+
     /// Takes the next token where it is one of these.
     pub fn eat_any(&mut self, of: Set) -> Option<&'a Token>
         ensures { Takes (among (symbols_of of)) self.old result self.new }
@@ -169,6 +179,32 @@ impl<'a> Cursor<'a> {
             return self.skip();
         }
         None
+    }
+
+    /// Takes the next token where it is such and a level is left for what it begins.
+    pub fn begin(&mut self, left: usize, symbol: Symbol) -> Result<Option<&'a Token>, Failed>
+        ensures { Begins left (is symbol) self.old result self.new }
+    {
+        if !self.sees(symbol) {
+            return Ok(None);
+        }
+        if left == 0 {
+            return Err(Failed::Fault(ParseKind::TooDeep));
+        }
+        Ok(self.skip())
+    }
+
+    /// Takes the next token where it is one of these and a level is left for what it begins.
+    pub fn begin_any(&mut self, left: usize, of: Set) -> Result<Option<&'a Token>, Failed>
+        ensures { Begins left (among (symbols_of of)) self.old result self.new }
+    {
+        if !self.sees_any(of) {
+            return Ok(None);
+        }
+        if left == 0 {
+            return Err(Failed::Fault(ParseKind::TooDeep));
+        }
+        Ok(self.skip())
     }
 
     pub fn expect(&mut self, symbol: Symbol) -> Result<(), Failed>
@@ -208,6 +244,40 @@ impl<'a> Cursor<'a> {
             return Err(Failed::Fault(ParseKind::TooDeep));
         }
         Ok(())
+    }
+
+    /// Whether a statement begins here that has a statement or a body as its part.
+    pub fn begins_nested(&self) -> bool
+        ensures { result ≡ sees begins_nested (next self.now) }
+    {
+        self.sees(Symbol::Function)
+            || self.sees(Symbol::If)
+            || self.sees(Symbol::While)
+            || self.sees(Symbol::For)
+    }
+
+    /// Whether a word begins here that may not stand everywhere, or an expression.
+    pub fn begins_word(&self, in_function: bool, in_loop: bool) -> bool
+        ensures { result ≡ sees (begins_word in_function in_loop) (next self.now) }
+    {
+        self.sees_where(Symbol::Break, in_loop)
+            || self.sees_where(Symbol::Continue, in_loop)
+            || self.sees_where(Symbol::Return, in_function)
+            || self.sees(Symbol::Throw)
+            || self.sees(Symbol::Try)
+            || self.sees_any(Set::ExprFirsts)
+    }
+
+    /// Whether a statement begins here.
+    #[tactic(auto, using(crate::proofs::Seen::begins_parts))]
+    pub fn begins_stmt(&self, in_function: bool, in_loop: bool) -> bool
+        ensures { result ≡ sees (begins_stmt in_function in_loop) (next self.now) }
+    {
+        self.sees(Symbol::Semicolon)
+            || self.sees(Symbol::OpenBrace)
+            || self.sees(Symbol::Var)
+            || self.begins_nested()
+            || self.begins_word(in_function, in_loop)
     }
 
     /// Takes a comma, or sees the token that closes the list.

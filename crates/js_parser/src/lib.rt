@@ -1,7 +1,27 @@
-//! Readers of the grammar of scripts, form by form, with their laws; and what the code will read by: the
-//! cursor over tokens, and the makers of trees (ECMAScript, 13 to 16).
+//! Reads the tokens of a script (ECMAScript, 13 to 16).
 #![tactic(auto)]
 
+mod bodies;
+mod branches;
 mod cursor;
+mod declarations;
+mod entry;
+mod exits;
+mod functions;
+mod handlers;
+mod laws;
+mod level;
+mod loops;
 mod make;
+mod members;
+mod operators;
+mod parts;
+mod series;
+mod statements;
+mod suffixes;
+mod updates;
 mod words;
+
+pub use entry::parse;
+pub use js_syntax::{ParseFault, ParseKind};
+pub use laws::{scripts_are_read_one_way, tokens_of_a_text_end_well, wider_limits_keep_scripts};

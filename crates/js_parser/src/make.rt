@@ -134,6 +134,20 @@ pub fn operation(alloc: Global, symbol: Symbol, left: Expr, right: Expr) -> Resu
     }
 }
 
+/// `a ? b : c`
+pub fn conditional(
+    alloc: Global,
+    test: Expr,
+    then: Expr,
+    otherwise: Expr,
+) -> Result<Expr, AllocError>
+    ensures { IfOk result (λ e. e ≡ Expr.Conditional test then otherwise) }
+{
+    let test = Boxed::new(alloc, test)?;
+    let then = Boxed::new(alloc, then)?;
+    Ok(Expr::Conditional(test, then, Boxed::new(alloc, otherwise)?))
+}
+
 /// `a = b` and its kin.
 pub fn assignment(
     alloc: Global,

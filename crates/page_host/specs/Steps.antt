@@ -67,6 +67,10 @@ AllWanted words files (step ∷ steps) = Wants words files step × AllWanted wor
 abbrev pub IsRefused : List (List ℕ) → Files → HostFault → Type 0
 IsRefused words files fault = IsFirstFault words files steps fault
 
+-- the words are a command, but none of the form that is built
+abbrev pub AreUnbuilt : List (List ℕ) → Type 0
+AreUnbuilt words = AreReadWords words × ((address : List ℕ) → IsRunCommand words address false → IsPlainAddress address → ⊥)
+
 -- words and files of the form that is built
 abbrev pub Fits : List (List ℕ) → Files → Type 0
 Fits words files = AllWanted words files steps

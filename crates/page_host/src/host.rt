@@ -4,7 +4,7 @@ ghost use Rattle.outside.specs.Causes.{Rose};
 ghost use Rattle.outside.specs.Contents.{Appends, AppendsPrefix};
 ghost use Rattle.page_host.specs.Faults.{IsOneOf, IsRefusalStatus, page_missing, status_of};
 ghost use Rattle.page_host.specs.Run.{IsRightOver, IsRightSoFar};
-ghost use Rattle.page_host.specs.Steps.{Fits, IsRefused};
+ghost use Rattle.page_host.specs.Steps.{AreUnbuilt, Fits, IsRefused};
 ghost use Rattle.page_host.specs.Words.{AreRead};
 ghost use Rattle.page_host.specs.declared.faults.HostFault.{HostFault as Fault};
 ghost use Rattle.std.specs.Prelude.{◌≡◌, ◌≢◌, ◌⊎◌, ◌≤◌, ◌↔◌, List, ℕ, [], ◌∷◌, Some, map, IfSome, MatchOption};
@@ -32,11 +32,11 @@ pub struct Ended {
 /// Runs what the words ask for over a folder, and writes the report.
 ///
 /// The status is 0, or that of the fault: 2, 3, 12 and 14 are the first refusal of words and files in the
-/// order of the steps, where the folder tells its files; 6 comes only where a call on the folder
-/// failed, 8 only where a write failed, and 11 for want of memory. At 0 the sink has the report of the
-/// journal, at 8 a prefix of it, at 11 nothing or a prefix, and else it is as before. The
-/// folder's files and the keeper are as before. At each status but 0 the journal is that of a run that may
-/// have been cut off: whole at 8, whole or empty at 11, and else empty.
+/// order of the steps, where the folder tells its files; a refusal of the words alone comes whatever it
+/// tells. 6 comes only where a call on the folder failed, 8 only where a write failed, and 11 for want of
+/// memory. At 0 the sink has the report of the journal, at 8 a prefix of it, at 11 nothing or a prefix, and
+/// else it is as before. The folder's files and the keeper are as before. At each status but 0 the journal
+/// is that of a run that may have been cut off: whole at 8, whole or empty at 11, and else empty.
 pub fn host_run<F: Folder, K: Keeper, S: Sink>(
     alloc: Global,
     words: &[String],
@@ -50,6 +50,7 @@ pub fn host_run<F: Folder, K: Keeper, S: Sink>(
 
     // What is refused, and why.
     ensures usage { result.status ≡ 2 ↔ ¬ AreRead (map string_bytes words.now) }
+    ensures unbuilt { AreUnbuilt (map string_bytes words.now) → result.status ≡ 14 }
     ensures cause { IsRefusalStatus result.status → IfSome (F.files folder.old) (λ files. IfSome result.fault (λ fault. IsRefused (map string_bytes words.now) files fault)) }
     ensures refused { IfSome (F.files folder.old) (λ files. (fault : Fault) → IsRefused (map string_bytes words.now) files fault → IsOneOf result.status (status_of fault ∷ (6 ∷ (11 ∷ [])))) }
     ensures complete { IfSome (F.files folder.old) (λ files. Fits (map string_bytes words.now) files → ¬ Rose (F.faults folder.old) (F.faults folder.new) → ¬ Rose (S.faults out.old) (S.faults out.new) → IsOneOf result.status (0 ∷ (11 ∷ []))) }

@@ -6,7 +6,7 @@ ghost use Rattle.page_host.specs.Address.{IsPlainAddress};
 ghost use Rattle.page_host.specs.Faults.{IsRefusal, page_missing, status_of};
 ghost use Rattle.page_host.specs.Prepared.{AreChosen, AreChosenOf, IsFolderFault, IsFormed, IsFound, IsMade, IsRefusedAt};
 ghost use Rattle.page_host.specs.Run.{AllActsAreSolo, IsRightOver};
-ghost use Rattle.page_host.specs.Steps.{IsRefused, file_steps, page_steps};
+ghost use Rattle.page_host.specs.Steps.{AreUnbuilt, IsRefused, file_steps, page_steps};
 ghost use Rattle.page_host.specs.Words.{AreRead, IsRunCommand};
 ghost use Rattle.small_forms.specs.Pages.{IsPage};
 ghost use Rattle.std.specs.Prelude.{◌≡◌, ◌⊎◌, ◌≤◌, ◌↔◌, List, ℕ, false, Some, codes, map, IfErr, IfOk, IfSome, IsErrOf};
@@ -52,6 +52,7 @@ pub fn prepare<F: Folder>(
     ensures right { IfOk result (λ made. IsRightOver (map string_bytes words.now) (F.files folder.old) made.journal.marks made.report.items) }
     ensures acts { IfOk result (λ made. (address : List ℕ) → AllActsAreSolo address made.journal.marks) }
     ensures usage { IsErrOf result HostFault.Usage ↔ ¬ AreRead (map string_bytes words.now) }
+    ensures unbuilt { AreUnbuilt (map string_bytes words.now) → IsErrOf result HostFault.NotYet }
     ensures refused { IfErr result (λ fault. IsRefusal fault → IfSome (F.files folder.old) (λ files. IsRefused (map string_bytes words.now) files fault)) }
     ensures same { F.files folder.new ≡ F.files folder.old }
     ensures later { F.faults folder.old ≤ F.faults folder.new }
@@ -71,7 +72,7 @@ pub fn prepare<F: Folder>(
 fn address_in(words: &[String]) -> Result<&str, HostFault>
     ensures ok { IfOk result (λ address. IsRunCommand (map string_bytes words.now) address.now false × IsPlainAddress address.now) }
     ensures usage { IsErrOf result HostFault.Usage ↔ ¬ AreRead (map string_bytes words.now) }
-    ensures not_yet { IsErrOf result HostFault.NotYet → AreRead (map string_bytes words.now) × ((address : List ℕ) → IsRunCommand (map string_bytes words.now) address false → IsPlainAddress address → ⊥) }
+    ensures not_yet { IsErrOf result HostFault.NotYet → AreUnbuilt (map string_bytes words.now) }
     ensures other { IfErr result (λ e. (e ≡ HostFault.Usage) ⊎ (e ≡ HostFault.NotYet)) }
 {
     match read_words(words) {

@@ -275,6 +275,55 @@ fn nine_userscripts_are_too_many(rt: HostRuntime) -> Result<(), Fail> {
     Ok(())
 }
 
+fn letters(alloc: Global, count: usize) -> Result<String, Fail> {
+    Ok(String::from_utf8(vec![in alloc; b'a'; count]?)?)
+}
+
+/// The status of a run at an address, with a userscript that logs and a page, each with so many letters in it.
+fn status_with<R: Abort + AllocGlobal>(
+    rt: &R,
+    host: usize,
+    logged: usize,
+    title: usize,
+) -> Result<u8, Fail> {
+    let alloc = rt.alloc();
+    let words = joined(alloc, &["run http://", letters(alloc, host)?.as_str(), "/"])?;
+    let lines = joined(
+        alloc,
+        &["GM_log(\"", letters(alloc, logged)?.as_str(), "\");\n"],
+    )?;
+    let start = "<html><head><title>";
+    let end = "</title></head><body></body></html>";
+    let page = joined(alloc, &[start, letters(alloc, title)?.as_str(), end])?;
+    let scripts = [("a.user.js", "a", lines.as_str())];
+    let run = Run {
+        words: words.as_str(),
+        page: page.as_str(),
+        ..first(&scripts)
+    };
+    Ok(run_of(rt, run)?.ended.status)
+}
+
+#[test]
+fn sizes_are_told_to_the_byte(rt: HostRuntime) -> Result<(), Fail> {
+    // an address of 253 bytes, a userscript of 1,024 and a page of 65,536, and one byte more; no page of 256 is long
+    for (host, logged, title, status) in [
+        (245, 947, 202, 0),
+        (246, 1, 1, 14),
+        (1, 948, 1, 14),
+        (1, 1, 203, 0),
+        (1, 1, 65_482, 0),
+        (1, 1, 65_483, 14),
+    ] {
+        assert_eq!(rt;
+            status_with(&rt, host, logged, title)?,
+            status,
+            "{host} {logged} {title}"
+        );
+    }
+    Ok(())
+}
+
 #[test]
 fn other_forms_are_not_built_yet(rt: HostRuntime) -> Result<(), Fail> {
     let five = page_with(rt.alloc(), &["", "", "", "", ""])?;

@@ -1,9 +1,11 @@
+pub mod Around
 pub mod Bytes
 pub mod Grammar
 pub mod Nodes
 pub mod Outcomes
 pub mod Page
 pub mod Pieces
+pub mod Printed
 pub mod Reads
 pub mod Scans
 pub mod Steps

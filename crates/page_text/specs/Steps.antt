@@ -9,8 +9,8 @@ use Rattle.page_text.specs.declared.faults.PageKind.TheVariants.{TooLong, Unclos
 use Rattle.page_text.specs.declared.scan.Raw.{Raw}
 use Rattle.page_text.specs.declared.scan.Raw.TheVariants.{Script, Style, Title, Textarea}
 use Rattle.page_text.specs.declared.scan.Stop.TheVariants.{AtMarkup, AtEndOf}
-use Rattle.page_text.specs.declared.state.Front.{Front as ReadFront}
-use Rattle.page_text.specs.declared.state.Front.TheVariants as f
+use Rattle.page_text.specs.declared.front.Front.{Front as ReadFront}
+use Rattle.page_text.specs.declared.front.Front.TheVariants as f
 use Rattle.page_text.specs.declared.state.Open.{Open as ReadOpen}
 use Rattle.page_text.specs.declared.state.State.{State as ReadState}
 use Rattle.page_text.specs.declared.state.Step.{Step as ReadStep}

@@ -4,6 +4,8 @@ use Rattle.std.proofs.Common.{Vec, Global}
 use Rattle.std.specs.Borrow.{Bor}
 use Rattle.std.specs.List.{list_any}
 use Rattle.std.specs.Str.{bytes_eq}
+use Rattle.std.specs.BTreeSet.{BTreeSet, contains}
+use Rattle.base_text.specs.Scalars.{text_cmp}
 use Rattle.page_text.specs.declared.faults.PageKind.{PageKind}
 use Rattle.page_text.specs.declared.faults.PageKind.TheVariants.{Unclosed, BadTag}
 use Rattle.page_text.specs.declared.scan.Stop.TheVariants.{AfterSpace, AfterName, AfterAttribute, AfterUnquoted, AtByte, AtCommentEnd}
@@ -70,6 +72,10 @@ next_at start text =
 -- the first of two equal names counts
 abbrev pub with_attribute : List Attribute → Attribute → List Attribute
 with_attribute found a = cond (list_any (λ b. bytes_eq b.name a.name) found) found (found ++ a ∷ [])
+
+-- the set has the names of these attributes
+abbrev pub AreNamed : List Attribute → BTreeSet (List ℕ) → Type 0
+AreNamed found names = (name : List ℕ) → contains text_cmp names name ≡ list_any (λ b. bytes_eq b.name name) found
 
 -- the attributes from here to the tag's end, behind those that are found
 pub data Attributes (start : Bytes) : List Attribute → Bytes → Outcome (List Attribute × Bytes) → Type 0 where

@@ -1,11 +1,21 @@
-//! From the bytes of a page to the pieces that the host builds.
+//! From the bytes of a page to the pieces that the host builds, and from a node back to its text.
 #![tactic(auto)]
 
+#[cfg(test)]
+mod builds;
+mod elements;
 mod faults;
+mod front;
+#[cfg(test)]
+mod limit_tests;
 mod pieces;
+#[cfg(test)]
+mod print_tests;
+mod printing;
 mod reader;
 mod scan;
 mod state;
+mod steps;
 mod tags;
 #[cfg(test)]
 mod tests;
@@ -14,6 +24,7 @@ mod writes;
 
 pub use faults::{PageFault, PageKind};
 pub use pieces::Piece;
+pub use printing::{a_node_is_printed_whole, print};
 pub use reader::{PageReader, a_page_has_one_reading};
 pub use tags::tags_are_spelled_so;
 pub use writes::Requests;

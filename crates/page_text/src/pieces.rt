@@ -6,7 +6,8 @@ ghost use Rattle.page_text.specs.Steps as steps;
 ghost use Rattle.page_text.specs.Pieces as spec;
 
 use crate::faults::Failed;
-use crate::state::{State, Step, next_step};
+use crate::state::{State, Step};
+use crate::steps::next_step;
 use crate::writes::Requests;
 use base_text::Text;
 use door::Texts;

@@ -16,6 +16,7 @@ use crate::scan::{Stop, begins_attribute, begins_space, scan, sees};
 use crate::values::{after, name, no_text, raw_text, value};
 use base_text::{Mem, Text};
 use std::alloc::Global;
+use std::collections::BTreeSet;
 
 /// An attribute of an element, its name in lower case.
 #[derive(Drop)]
@@ -189,19 +190,21 @@ fn next_at<'a>(
 }
 
 /// An attribute more, where no earlier one has its name.
-fn with_attribute(found: &mut Vec<Attribute>, attribute: Attribute) -> Mem<()>
-    ensures { OnOk result (found.new.items ≡ spec.with_attribute found.old.items attribute) }
+fn with_attribute(
+    found: &mut Vec<Attribute>,
+    names: &mut BTreeSet<Text, Global>,
+    attribute: Attribute,
+) -> Mem<()>
+    requires { spec.AreNamed found.old.items names.old }
+    ensures added { OnOk result (found.new.items ≡ spec.with_attribute found.old.items attribute) }
+    ensures named { OnOk result (spec.AreNamed found.new.items names.new) }
 {
-    if !has_name(found, &attribute.name) {
-        found.push(attribute)?;
+    if names.contains(&attribute.name) {
+        return Ok(());
     }
+    names.insert(attribute.name.share()?)?;
+    found.push(attribute)?;
     Ok(())
-}
-
-fn has_name(found: &[Attribute], name: &Text) -> bool
-    ensures { result ≡ list_any (λ b. bytes_eq b.name name.now) found.now }
-{
-    found.iter().any(|b| b.name == *name)
 }
 
 /// The attributes up to the tag's end, and what follows it.
@@ -214,6 +217,7 @@ fn attributes<'a>(
     ensures rest { IfOk result (λ x. IsRest text.now x.1.now) }
 {
     let mut found = Vec::new(alloc);
+    let mut names = BTreeSet::new(alloc);
     let mut rest = text;
     loop {
         let (next, behind) = match next_at(alloc, start, rest) {
@@ -224,7 +228,7 @@ fn attributes<'a>(
             None => return Ok((found, behind)),
             Some(attribute) => attribute,
         };
-        with_attribute(&mut found, attribute)?;
+        with_attribute(&mut found, &mut names, attribute)?;
         rest = behind;
     }
 }

@@ -118,7 +118,7 @@ pub(crate) fn push_element(
     append(alloc, writes, parent, element(number))
 }
 
-fn is_named(word: &str, name: &Text) -> bool
+pub(crate) fn is_named(word: &str, name: &Text) -> bool
     ensures { result ≡ nodes.is_named word.now name.now }
 {
     name.as_str() == word

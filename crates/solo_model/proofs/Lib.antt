@@ -4,3 +4,4 @@ pub mod Steps
 pub mod Solos
 pub mod Journals
 pub mod Meets
+pub mod Fronts

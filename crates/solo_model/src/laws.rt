@@ -1,9 +1,9 @@
 //! Laws over the definitions, as the contracts of functions that do nothing.
 
-ghost use Rattle.std.specs.Prelude.{◌≡◌, List, ℕ, take};
+ghost use Rattle.std.specs.Prelude.{◌≡◌, ◌++◌, List, ℕ, take};
 ghost use Rattle.door.specs.declared.marks.Mark.{Mark};
 ghost use Rattle.door.specs.declared.values.Actor.{Actor};
-ghost use Rattle.solo_model.specs.Closed.{ActsAreSolo, Setups, closed_deeds, closed_view};
+ghost use Rattle.solo_model.specs.Closed.{ActsAreSolo, IsClosed, Setups, closed_deeds, closed_front, closed_view};
 ghost use Rattle.solo_model.specs.Solo.{shows_of};
 
 use small_forms::{page_scripts_are_read_one_way, userscripts_are_read_one_way};
@@ -19,3 +19,10 @@ pub fn equal_shows_give_equal_deeds()
     page_scripts_are_read_one_way();
     userscripts_are_read_one_way();
 }
+
+/// The closed front of a journal is its longest front in which the actor is closed.
+pub fn the_closed_front_is_the_longest()
+    ensures front { (setups : Setups) (i : Actor) (marks : List Mark) → (rest : List Mark) × (marks ≡ closed_front setups i marks ++ rest) }
+    ensures closed { (setups : Setups) (i : Actor) (marks : List Mark) → IsClosed setups i (closed_front setups i marks) }
+    ensures longest { (setups : Setups) (i : Actor) (front rest : List Mark) → IsClosed setups i front → (more : List Mark) × (closed_front setups i (front ++ rest) ≡ front ++ more) }
+{}

@@ -16,4 +16,4 @@ returns-in-None-clause-value c =
 
 pub loop-failed-preserved : goal.loop-failed-preserved
 loop-failed-preserved c =
-    (c.in-Ok.ensures.rest.1, omega (arith, c.in-Ok.ensures.rest.0), λ out h. c.loop-failed.invariant.2 out (more c.loop-failed.found.items c.in-Some.attribute c.loop-failed.rest.now c.in-Ok.read.1.now out (rw c.in-Some.is at c.in-Ok.ensures.value) (rw c.in_ok-with_attribute.ensures at h)))
+    (c.in-Ok.ensures.rest.1, omega (arith, c.in-Ok.ensures.rest.0), λ out h. c.loop-failed.invariant.2 out (more c.loop-failed.found.items c.in-Some.attribute c.loop-failed.rest.now c.in-Ok.read.1.now out (rw c.in-Some.is at c.in-Ok.ensures.value) (rw c.in_ok-with_attribute.ensures.added at h)), c.in_ok-with_attribute.ensures.named)

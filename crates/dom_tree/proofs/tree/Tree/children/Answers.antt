@@ -1,4 +1,4 @@
-use Rattle.std.proofs.Common.{◌≡◌, ◌∙◌, ◌<◌, ap, sym, subst, ℕ, List, length, slice_index_or}
+use Rattle.std.proofs.Common.{◌≡◌, ◌∙◌, ap, subst, slice_index_or}
 use Rattle.door.specs.Forest.{Forest, IsForest, Node}
 use Rattle.dom_tree.proofs.Children.{children_known}
 use Rattle.dom_tree.proofs.NodeLemmas.{node_at-read}

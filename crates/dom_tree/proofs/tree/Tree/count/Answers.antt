@@ -1,4 +1,4 @@
-use Rattle.std.proofs.Common.{arith, ◌<◌}
+use Rattle.std.proofs.Common.{arith}
 use Rattle.dom_tree.proofs.Children.{forest_some}
 use Rattle.dom_tree.proofs.tree.Tree.count.Goals as goal
 

@@ -1,0 +1,10 @@
+pub mod Again
+pub mod Firsts
+pub mod Fitting
+pub mod KindFacts
+pub mod Letters
+pub mod Placed
+pub mod Tests
+pub mod Walks
+pub mod Ways
+pub mod Words

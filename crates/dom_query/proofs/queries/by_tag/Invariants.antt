@@ -1,0 +1,10 @@
+use Rattle.std.proofs.Common.{◌≡◌, ◌++◌, drop}
+use Rattle.std.specs.List.{filter}
+use Rattle.door.specs.Forest.{form_at}
+use Rattle.dom_query.specs.Fits.{fits}
+use Rattle.dom_query.specs.Queries.{numbers_of, is_of_tag}
+use Rattle.dom_query.proofs.queries.by_tag.Given as goal
+
+-- what is found and what passes of the nodes that are left is all that passes
+abbrev pub invariant-loop-n : goal.invariant-loop-n
+invariant-loop-n l = numbers_of l.found.items ++ filter (λ m. is_of_tag l.tag (form_at l.tree m)) (drop l.n-index l.n-items) ≡ filter (λ m. is_of_tag l.tag (form_at l.tree m)) l.n-items

@@ -1,0 +1,61 @@
+//! The kinds of scalars in a selector.
+
+ghost use Rattle.std.specs.Prelude.{◌≡◌};
+ghost use Rattle.dom_query.specs.Names as spec;
+ghost use Rattle.dom_query.specs.Reading as reading;
+
+/// What a scalar is outside of quotes.
+#[derive(Clone, Copy)]
+pub(crate) enum Kind {
+    Name,
+    Blank,
+    Star,
+    Hash,
+    Dot,
+    Open,
+    Close,
+    Equals,
+    Quote,
+    Comma,
+    Other,
+}
+
+fn is_blank(c: char) -> bool
+    ensures { result ≡ spec.is_blank c }
+{
+    matches!(c, '\t' | '\n' | '\u{C}' | '\r' | ' ')
+}
+
+fn is_name_scalar(c: char) -> bool
+    ensures { result ≡ spec.is_name_scalar c }
+{
+    ('a' <= c && c <= 'z')
+        || ('A' <= c && c <= 'Z')
+        || ('0' <= c && c <= '9')
+        || c == '-'
+        || c == '_'
+        || '\u{80}' <= c
+}
+
+pub(crate) fn kind_of(c: char) -> Kind
+    ensures { result ≡ reading.kind_of c }
+{
+    if is_name_scalar(c) {
+        return Kind::Name;
+    }
+    if is_blank(c) {
+        return Kind::Blank;
+    }
+    match c {
+        '*' => Kind::Star,
+        '#' => Kind::Hash,
+        '.' => Kind::Dot,
+        '[' => Kind::Open,
+        ']' => Kind::Close,
+        '=' => Kind::Equals,
+        '"' => Kind::Quote,
+        '\'' => Kind::Quote,
+        ',' => Kind::Comma,
+        _ => Kind::Other,
+    }
+}

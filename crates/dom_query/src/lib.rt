@@ -1,0 +1,19 @@
+//! Searching a tree: selectors, ids and tags.
+#![tactic(auto)]
+
+mod built;
+mod fault;
+mod fits;
+mod kind;
+mod parse;
+mod queries;
+mod selector;
+mod state;
+#[cfg(test)]
+mod tests;
+mod walk;
+
+pub use fault::SelectorFault;
+pub use parse::parse_selector;
+pub use queries::{by_id, by_tag, select};
+pub use selector::Selector;

@@ -1,0 +1,30 @@
+-- What is read of a script by its statements and its end.
+use Rattle.std.proofs.Common.{◌≡◌, ◌≤◌, ◌+◌, ℕ, List, Result, Ok, Err, ap, subst, ◌∙◌, sym, arith}
+use Rattle.js_syntax.specs.declared.parse_fault.ParseKind.{ParseKind}
+use Rattle.js_syntax.specs.declared.tree.Stmt.{Stmt}
+use Rattle.js_syntax.specs.declared.tree.Script.{Script}
+use Rattle.js_syntax.specs.Symbols.{Tokens}
+use Rattle.js_syntax.specs.Scripts.{IsScript}
+use Rattle.token_readers.specs.Readers.{Outcome}
+use Rattle.js_parser.specs.declared.cursor.Failed.{Failed}
+use Rattle.js_parser.specs.declared.cursor.Failed.TheVariants.{Fault}
+use Rattle.js_parser.specs.Reads.{Reads}
+use Rattle.js_parser.specs.Statements.{top, finish, finish_after, script}
+use Rattle.js_parser.proofs.Tops.{script_again}
+use Rattle.js_parser.proofs.Widening.{script_widens}
+
+pub parsed : (chains levels : ℕ) (ts old rest : Tokens) (all : List Stmt) (r : Result Script (ParseKind × Tokens)) → old ≡ ts → top chains levels old ≡ Ok (all, rest) → finish all rest ≡ r → script chains levels ts ≡ r
+unfolding script
+parsed chains levels ts old rest all r e read end = ap (λ z. finish_after (top chains levels z)) (sym e) ∙ ap finish_after read ∙ end
+
+pub failed : (chains levels : ℕ) (ts old rest : Tokens) (kind : ParseKind) (e : Failed) → old ≡ ts → e ≡ Fault kind → Reads (top chains levels old) (Err e) rest → script chains levels ts ≡ Err (kind, rest)
+unfolding script
+failed chains levels ts old rest kind e h f r =
+    let g : Reads (top chains levels old) (Err (Fault kind)) rest = subst (λ (x : Failed). Reads (top chains levels old) (Err x) rest) f r in
+    ap (λ x. finish_after (top chains levels x)) (sym h) ∙ ap finish_after g
+
+pub one_script : (chains levels : ℕ) (ts : Tokens) (a b : Script) → IsScript chains levels ts a → IsScript chains levels ts b → a ≡ b
+one_script chains levels ts a b x y =
+    let x' = script_again (chains + 1) levels (omega arith) ts a (script_widens chains (chains + 1) levels levels (omega arith) (omega arith) ts a x) in
+    let y' = script_again (chains + 1) levels (omega arith) ts b (script_widens chains (chains + 1) levels levels (omega arith) (omega arith) ts b y) in
+    cc

@@ -1,0 +1,26 @@
+use Rattle.std.proofs.Common.{rules, arith}
+use Rattle.std.proofs.lemmas.Grind.{common_steps}
+use Rattle.std.proofs.Common.{true}
+use Rattle.token_readers.specs.Readers.{rounds}
+use Rattle.js_parser.specs.Expressions.{not_comma, next_item}
+use Rattle.js_parser.specs.Statements.{within}
+use Rattle.js_parser.proofs.Turns as turns
+use Rattle.js_parser.proofs.level.Level.more_exprs.Goals as goal
+
+pub returns-in_default : goal.returns-in_default
+unfolding rounds
+returns-in_default g c =
+    let e = turns.one_more (λ n. rounds n not_comma (next_item ((within 64 c.args.self.now.left).expr true)) c.loop-turn.found c.loop-turn.tokens) _ c.loop-turn._turn c.loop-turn-test.true c.loop-turn.invariant in
+    first_of (search rules, grind (arith, common_steps))
+
+pub returns-in_err-item : goal.returns-in_err-item
+unfolding rounds
+returns-in_err-item g c =
+    let e = turns.one_more (λ n. rounds n not_comma (next_item ((within 64 c.args.self.now.left).expr true)) c.loop-turn.found c.loop-turn.tokens) _ c.loop-turn._turn c.loop-turn-test.true c.loop-turn.invariant in
+    first_of (search rules, grind (arith, common_steps))
+
+pub loop-turn-preserved : goal.loop-turn-preserved
+unfolding rounds
+loop-turn-preserved g c =
+    let e = turns.one_more (λ n. rounds n not_comma (next_item ((within 64 c.args.self.now.left).expr true)) c.loop-turn.found c.loop-turn.tokens) _ c.loop-turn._turn c.loop-turn-test.true c.loop-turn.invariant in
+    first_of (search rules, grind (arith, common_steps))

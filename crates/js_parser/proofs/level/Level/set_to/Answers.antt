@@ -1,0 +1,15 @@
+use Rattle.std.proofs.Common.{◌≡◌, Option, Ok, subst}
+use denote.Bor.{Bor}
+use Rattle.js_syntax.specs.declared.token.Token.{Token}
+use Rattle.js_syntax.specs.Words.{assigns}
+use Rattle.token_readers.specs.Readers.{pure}
+use Rattle.js_parser.specs.Reads.{Begins}
+use Rattle.js_parser.specs.Pieces.{assigned}
+use Rattle.js_parser.specs.Statements.{within}
+use Rattle.js_parser.proofs.Begun as begun
+use Rattle.js_parser.proofs.level.Level.set_to.Goals as goal
+
+pub returns-in-Some : goal.returns-in-Some
+returns-in-Some g c =
+    let h = subst (λ (o : Option (Bor Token)). Begins c.args.self.now.left (assigns c.args.target) c.args.tokens.now (Ok o) c.begin_assign.new.tokens) c.in-Some.is c.in_ok-mark.ensures in
+    rw (begun.taken c.args.self.now.left (assigns c.args.target) (λ t. assigned (within 64 c.args.self.now.left) c.args.in_is c.args.target t) (pure c.args.target) c.args.tokens.now c.begin_assign.new.tokens c.in-Some.mark.now h.0 h.1.0 h.1.1) c.assigned.ensures

@@ -1,0 +1,71 @@
+//! Statements one after another, and blocks (ECMAScript, 14.2).
+ghost use Rattle.js_parser.specs.Reads.{Reads};
+ghost use Rattle.js_parser.specs.Nests.{Deeper};
+ghost use Rattle.js_parser.specs.Statements as spec;
+ghost use Rattle.js_syntax.specs.Words.{closes_body};
+ghost use Rattle.js_parser.specs.Expressions.{each};
+
+use crate::cursor::{Cursor, Failed};
+use crate::level::{CHAINS, Form, Level, Part};
+use js_syntax::{Expr, Property, Stmt, Symbol};
+use sqlite_items::Items;
+use std::alloc::Global;
+
+impl<
+    E: Fn(Global, &mut Cursor<'_>, usize, Part) -> Result<Expr, Failed>,
+    M: Fn(Global, &mut Cursor<'_>, usize) -> Result<Property, Failed>,
+    S: Fn(Global, &mut Cursor<'_>, usize, Form, bool, bool) -> Result<Stmt, Failed>,
+> Level<E, M, S> {
+    /// The statements one level deeper, up to a token that closes them.
+    #[tactic(auto, unfolding(crate::specs::Expressions::each, token_readers::specs::Readers::repeat, token_readers::specs::Readers::rounds))]
+    pub fn statements(
+        &self,
+        tokens: &mut Cursor<'_>,
+        in_function: bool,
+        in_loop: bool,
+    ) -> Result<Items<Stmt>, Failed>
+        requires { Deeper self.now.left (E.pre self.now.expr) (E.post self.now.expr) (M.pre self.now.member) (M.post self.now.member) (S.pre self.now.stmt) (S.post self.now.stmt) }
+        ensures { Reads (each closes_body ((spec.within CHAINS self.now.left).stmt in_function in_loop) tokens.old) result tokens.new }
+    {
+        let mut found = Items::new(self.alloc);
+        for _turn in 0..tokens.left() {
+            if tokens.closes_body() {
+                return Ok(found);
+            }
+            let item = self.stmt(tokens, in_function, in_loop)?;
+            found.push(item)?;
+        }
+        Ok(found)
+    }
+
+    /// A block behind its first brace.
+    #[tactic(auto, unfolding(crate::specs::Statements::block_rest))]
+    pub fn block_rest(
+        &self,
+        tokens: &mut Cursor<'_>,
+        in_function: bool,
+        in_loop: bool,
+    ) -> Result<Stmt, Failed>
+        requires { Deeper self.now.left (E.pre self.now.expr) (E.post self.now.expr) (M.pre self.now.member) (M.post self.now.member) (S.pre self.now.stmt) (S.post self.now.stmt) }
+        ensures { Reads (spec.block_rest (spec.within CHAINS self.now.left) in_function in_loop tokens.old) result tokens.new }
+    {
+        let body = self.statements(tokens, in_function, in_loop)?;
+        tokens.expect(Symbol::CloseBrace)?;
+        Ok(Stmt::Block(body))
+    }
+
+    /// A block of this level.
+    #[tactic(auto, unfolding(crate::specs::Statements::block))]
+    pub fn braces(
+        &self,
+        tokens: &mut Cursor<'_>,
+        in_function: bool,
+        in_loop: bool,
+    ) -> Result<Stmt, Failed>
+        requires { Deeper self.now.left (E.pre self.now.expr) (E.post self.now.expr) (M.pre self.now.member) (M.post self.now.member) (S.pre self.now.stmt) (S.post self.now.stmt) }
+        ensures { Reads (spec.block (spec.within CHAINS self.now.left) in_function in_loop tokens.old) result tokens.new }
+    {
+        tokens.expect(Symbol::OpenBrace)?;
+        self.block_rest(tokens, in_function, in_loop)
+    }
+}

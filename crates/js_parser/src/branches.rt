@@ -1,0 +1,74 @@
+//! `if` and `while` (ECMAScript, 14.6 and 14.7.3).
+ghost use Rattle.js_parser.specs.Reads.{Reads};
+ghost use Rattle.js_parser.specs.Nests.{Deeper};
+ghost use Rattle.js_parser.specs.Statements as spec;
+
+use crate::cursor::{Cursor, Failed};
+use crate::level::{CHAINS, Form, Level, Part};
+use crate::make;
+use js_syntax::{Expr, Property, Stmt, Symbol};
+use std::alloc::Global;
+
+impl<
+    E: Fn(Global, &mut Cursor<'_>, usize, Part) -> Result<Expr, Failed>,
+    M: Fn(Global, &mut Cursor<'_>, usize) -> Result<Property, Failed>,
+    S: Fn(Global, &mut Cursor<'_>, usize, Form, bool, bool) -> Result<Stmt, Failed>,
+> Level<E, M, S> {
+    /// An expression in brackets.
+    #[tactic(auto, unfolding(crate::specs::Statements::condition))]
+    pub fn condition(&self, tokens: &mut Cursor<'_>) -> Result<Expr, Failed>
+        requires { Deeper self.now.left (E.pre self.now.expr) (E.post self.now.expr) (M.pre self.now.member) (M.post self.now.member) (S.pre self.now.stmt) (S.post self.now.stmt) }
+        ensures { Reads (spec.condition CHAINS self.now.left (spec.within CHAINS self.now.left) tokens.old) result tokens.new }
+    {
+        tokens.expect(Symbol::Open)?;
+        let value = self.assign(tokens, true)?;
+        tokens.expect(Symbol::Close)?;
+        Ok(value)
+    }
+
+    /// The `else` of the nearest `if`, where it has one.
+    #[tactic(auto, unfolding(crate::specs::Statements::otherwise))]
+    pub fn otherwise(
+        &self,
+        tokens: &mut Cursor<'_>,
+        in_function: bool,
+        in_loop: bool,
+    ) -> Result<Option<Stmt>, Failed>
+        requires { Deeper self.now.left (E.pre self.now.expr) (E.post self.now.expr) (M.pre self.now.member) (M.post self.now.member) (S.pre self.now.stmt) (S.post self.now.stmt) }
+        ensures { Reads (spec.otherwise (spec.within CHAINS self.now.left) in_function in_loop tokens.old) result tokens.new }
+    {
+        if let Some(_) = tokens.eat(Symbol::Else) {
+            let branch = self.stmt(tokens, in_function, in_loop)?;
+            return Ok(Some(branch));
+        }
+        Ok(None)
+    }
+
+    /// An `if` behind its word.
+    #[tactic(auto, unfolding(crate::specs::Statements::branch))]
+    pub fn branch(
+        &self,
+        tokens: &mut Cursor<'_>,
+        in_function: bool,
+        in_loop: bool,
+    ) -> Result<Stmt, Failed>
+        requires { Deeper self.now.left (E.pre self.now.expr) (E.post self.now.expr) (M.pre self.now.member) (M.post self.now.member) (S.pre self.now.stmt) (S.post self.now.stmt) }
+        ensures { Reads (spec.branch CHAINS self.now.left (spec.within CHAINS self.now.left) in_function in_loop tokens.old) result tokens.new }
+    {
+        let test = self.condition(tokens)?;
+        let then = self.stmt(tokens, in_function, in_loop)?;
+        let otherwise = self.otherwise(tokens, in_function, in_loop)?;
+        Ok(make::branch(self.alloc, test, then, otherwise)?)
+    }
+
+    /// A `while` behind its word.
+    #[tactic(auto, unfolding(crate::specs::Statements::repetition))]
+    pub fn repetition(&self, tokens: &mut Cursor<'_>, in_function: bool) -> Result<Stmt, Failed>
+        requires { Deeper self.now.left (E.pre self.now.expr) (E.post self.now.expr) (M.pre self.now.member) (M.post self.now.member) (S.pre self.now.stmt) (S.post self.now.stmt) }
+        ensures { Reads (spec.repetition CHAINS self.now.left (spec.within CHAINS self.now.left) in_function tokens.old) result tokens.new }
+    {
+        let test = self.condition(tokens)?;
+        let body = self.stmt(tokens, in_function, true)?;
+        Ok(make::repetition(self.alloc, test, body)?)
+    }
+}

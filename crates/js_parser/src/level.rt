@@ -1,0 +1,156 @@
+//! The forms at one level. What stands one level deeper is read by function values, so that each form is
+//! proved by itself.
+ghost use Rattle.std.specs.Prelude.{◌≡◌, if◌then◌else◌};
+ghost use Rattle.js_parser.specs.Reads.{Reads};
+ghost use Rattle.js_parser.specs.Nests.{Deeper};
+ghost use Rattle.js_parser.specs.Statements as spec;
+
+use crate::cursor::{Cursor, Failed};
+use js_syntax::{Expr, ParseKind, Property, Stmt};
+use std::alloc::Global;
+
+/// How many operators a chain and how many suffixes an expression may have.
+pub const CHAINS: usize = 64;
+
+/// Which part of an expression is read one level deeper.
+#[derive(Clone, Copy)]
+pub enum Part {
+    /// An expression, where `in` is an operator or not.
+    Whole(bool),
+    /// The operand of an operator before it.
+    Operand,
+    /// The operand of a `++` or `--` before it.
+    Target,
+    /// What a `new` is applied to.
+    Callee,
+    /// What a `new` is applied to in the operand of a `++` or `--` before it.
+    Applied,
+}
+
+/// Which kind of statement is read one level deeper.
+#[derive(Clone, Copy)]
+pub enum Form {
+    /// Any statement.
+    Any,
+    /// A block.
+    Block,
+}
+
+/// The readers of what stands one level deeper, and how many levels deeper a part of it may go.
+#[derive(Clone, Copy)]
+pub struct Level<E, M, S> {
+    pub alloc: Global,
+    /// How many levels deeper a part may go.
+    pub left: usize,
+    /// Reads a part of an expression.
+    pub expr: E,
+    /// Reads a member of an object literal.
+    pub member: M,
+    /// Reads a statement, in a function or not, and in a loop of it or not.
+    pub stmt: S,
+}
+
+/// The fault at a part past the last level.
+pub fn refuse_part(begins: bool) -> Failed
+    ensures { result ≡ (if begins then Failed.Fault ParseKind.TooDeep else Failed.Fault ParseKind.Unexpected) }
+{
+    if begins {
+        Failed::Fault(ParseKind::TooDeep)
+    } else {
+        Failed::Fault(ParseKind::Unexpected)
+    }
+}
+
+impl<
+    E: Fn(Global, &mut Cursor<'_>, usize, Part) -> Result<Expr, Failed>,
+    M: Fn(Global, &mut Cursor<'_>, usize) -> Result<Property, Failed>,
+    S: Fn(Global, &mut Cursor<'_>, usize, Form, bool, bool) -> Result<Stmt, Failed>,
+> Level<E, M, S> {
+    /// An expression one level deeper.
+    pub fn expr(&self, tokens: &mut Cursor<'_>, in_is: bool) -> Result<Expr, Failed>
+        requires { Deeper self.now.left (E.pre self.now.expr) (E.post self.now.expr) (M.pre self.now.member) (M.post self.now.member) (S.pre self.now.stmt) (S.post self.now.stmt) }
+        ensures { Reads ((spec.within CHAINS self.now.left).expr in_is tokens.old) result tokens.new }
+    {
+        (self.expr)(self.alloc, tokens, self.left, Part::Whole(in_is))
+    }
+
+    /// The operand of an operator before it, one level deeper.
+    pub fn operand(&self, tokens: &mut Cursor<'_>) -> Result<Expr, Failed>
+        requires { Deeper self.now.left (E.pre self.now.expr) (E.post self.now.expr) (M.pre self.now.member) (M.post self.now.member) (S.pre self.now.stmt) (S.post self.now.stmt) }
+        ensures { Reads ((spec.within CHAINS self.now.left).operand tokens.old) result tokens.new }
+    {
+        (self.expr)(self.alloc, tokens, self.left, Part::Operand)
+    }
+
+    /// The operand of a `++` or `--` before it, one level deeper.
+    pub fn target(&self, tokens: &mut Cursor<'_>) -> Result<Expr, Failed>
+        requires { Deeper self.now.left (E.pre self.now.expr) (E.post self.now.expr) (M.pre self.now.member) (M.post self.now.member) (S.pre self.now.stmt) (S.post self.now.stmt) }
+        ensures { Reads ((spec.within CHAINS self.now.left).target tokens.old) result tokens.new }
+    {
+        (self.expr)(self.alloc, tokens, self.left, Part::Target)
+    }
+
+    /// What a `new` is applied to, one level deeper.
+    pub fn callee_below(&self, tokens: &mut Cursor<'_>) -> Result<Expr, Failed>
+        requires { Deeper self.now.left (E.pre self.now.expr) (E.post self.now.expr) (M.pre self.now.member) (M.post self.now.member) (S.pre self.now.stmt) (S.post self.now.stmt) }
+        ensures { Reads ((spec.within CHAINS self.now.left).callee tokens.old) result tokens.new }
+    {
+        (self.expr)(self.alloc, tokens, self.left, Part::Callee)
+    }
+
+    /// What a `new` is applied to in the operand of a `++` or `--`, one level deeper.
+    pub fn applied_below(&self, tokens: &mut Cursor<'_>) -> Result<Expr, Failed>
+        requires { Deeper self.now.left (E.pre self.now.expr) (E.post self.now.expr) (M.pre self.now.member) (M.post self.now.member) (S.pre self.now.stmt) (S.post self.now.stmt) }
+        ensures { Reads ((spec.within CHAINS self.now.left).applied tokens.old) result tokens.new }
+    {
+        (self.expr)(self.alloc, tokens, self.left, Part::Applied)
+    }
+
+    /// A member of an object literal, one level deeper.
+    pub fn member_below(&self, tokens: &mut Cursor<'_>) -> Result<Property, Failed>
+        requires { Deeper self.now.left (E.pre self.now.expr) (E.post self.now.expr) (M.pre self.now.member) (M.post self.now.member) (S.pre self.now.stmt) (S.post self.now.stmt) }
+        ensures { Reads ((spec.within CHAINS self.now.left).member tokens.old) result tokens.new }
+    {
+        (self.member)(self.alloc, tokens, self.left)
+    }
+
+    /// A statement one level deeper.
+    pub fn stmt(
+        &self,
+        tokens: &mut Cursor<'_>,
+        in_function: bool,
+        in_loop: bool,
+    ) -> Result<Stmt, Failed>
+        requires { Deeper self.now.left (E.pre self.now.expr) (E.post self.now.expr) (M.pre self.now.member) (M.post self.now.member) (S.pre self.now.stmt) (S.post self.now.stmt) }
+        ensures { Reads ((spec.within CHAINS self.now.left).stmt in_function in_loop tokens.old) result tokens.new }
+    {
+        (self.stmt)(
+            self.alloc,
+            tokens,
+            self.left,
+            Form::Any,
+            in_function,
+            in_loop,
+        )
+    }
+
+    /// A block one level deeper.
+    pub fn block(
+        &self,
+        tokens: &mut Cursor<'_>,
+        in_function: bool,
+        in_loop: bool,
+    ) -> Result<Stmt, Failed>
+        requires { Deeper self.now.left (E.pre self.now.expr) (E.post self.now.expr) (M.pre self.now.member) (M.post self.now.member) (S.pre self.now.stmt) (S.post self.now.stmt) }
+        ensures { Reads ((spec.within CHAINS self.now.left).block in_function in_loop tokens.old) result tokens.new }
+    {
+        (self.stmt)(
+            self.alloc,
+            tokens,
+            self.left,
+            Form::Block,
+            in_function,
+            in_loop,
+        )
+    }
+}

@@ -1,0 +1,211 @@
+//! `for` (ECMAScript, 14.7.4 and 14.7.5).
+ghost use Rattle.std.specs.Prelude.{◌≡◌, IfOk};
+ghost use Rattle.js_parser.specs.Reads.{Reads};
+ghost use Rattle.js_parser.specs.Nests.{Deeper};
+ghost use Rattle.js_parser.specs.Heads as heads;
+ghost use Rattle.js_parser.specs.Statements as spec;
+
+use crate::cursor::{Cursor, Failed};
+use crate::functions::name;
+use crate::level::{CHAINS, Form, Level, Part};
+use crate::make;
+use js_syntax::{Declaration, Expr, ForStart, ForTarget, Property, Stmt, Symbol};
+use sqlite_items::Items;
+use std::alloc::{AllocError, Global};
+
+/// The head of a `for`.
+#[derive(Drop)]
+pub struct Head {
+    start: ForStart,
+    test: Option<Expr>,
+    step: Option<Expr>,
+}
+
+/// The head of a `for` over keys.
+#[derive(Drop)]
+pub struct KeysHead {
+    target: ForTarget,
+    object: Expr,
+}
+
+fn turned(alloc: Global, head: Head, body: Stmt) -> Result<Stmt, AllocError>
+    ensures { IfOk result (λ x. x ≡ Stmt.For head.start head.test head.step body) }
+{
+    let Head { start, test, step } = head;
+    make::turns(alloc, start, test, step, body)
+}
+
+fn turned_over(alloc: Global, head: KeysHead, body: Stmt) -> Result<Stmt, AllocError>
+    ensures { IfOk result (λ x. x ≡ Stmt.ForIn head.target head.object body) }
+{
+    let KeysHead { target, object } = head;
+    make::over_keys(alloc, target, object, body)
+}
+
+impl<
+    E: Fn(Global, &mut Cursor<'_>, usize, Part) -> Result<Expr, Failed>,
+    M: Fn(Global, &mut Cursor<'_>, usize) -> Result<Property, Failed>,
+    S: Fn(Global, &mut Cursor<'_>, usize, Form, bool, bool) -> Result<Stmt, Failed>,
+> Level<E, M, S> {
+    /// An expression and the token that closes it, or that token alone.
+    #[tactic(auto, unfolding(crate::specs::Statements::optional))]
+    pub fn optional(&self, tokens: &mut Cursor<'_>, close: Symbol) -> Result<Option<Expr>, Failed>
+        requires { Deeper self.now.left (E.pre self.now.expr) (E.post self.now.expr) (M.pre self.now.member) (M.post self.now.member) (S.pre self.now.stmt) (S.post self.now.stmt) }
+        ensures { Reads (spec.optional CHAINS self.now.left (spec.within CHAINS self.now.left) close tokens.old) result tokens.new }
+    {
+        if let Some(_) = tokens.eat(close) {
+            return Ok(None);
+        }
+        let value = self.assign(tokens, true)?;
+        tokens.expect(close)?;
+        Ok(Some(value))
+    }
+
+    /// A `for` behind its head.
+    pub fn for_body(
+        &self,
+        tokens: &mut Cursor<'_>,
+        in_function: bool,
+        head: Head,
+    ) -> Result<Stmt, Failed>
+        requires { Deeper self.now.left (E.pre self.now.expr) (E.post self.now.expr) (M.pre self.now.member) (M.post self.now.member) (S.pre self.now.stmt) (S.post self.now.stmt) }
+        ensures { Reads (heads.for_body (spec.within CHAINS self.now.left) in_function head.start head.test head.step tokens.old) result tokens.new }
+    {
+        let body = self.stmt(tokens, in_function, true)?;
+        Ok(turned(self.alloc, head, body)?)
+    }
+
+    /// A `for` behind the second semicolon of its head.
+    pub fn for_step(
+        &self,
+        tokens: &mut Cursor<'_>,
+        in_function: bool,
+        start: ForStart,
+        test: Option<Expr>,
+    ) -> Result<Stmt, Failed>
+        requires { Deeper self.now.left (E.pre self.now.expr) (E.post self.now.expr) (M.pre self.now.member) (M.post self.now.member) (S.pre self.now.stmt) (S.post self.now.stmt) }
+        ensures { Reads (heads.for_step CHAINS self.now.left (spec.within CHAINS self.now.left) in_function start test tokens.old) result tokens.new }
+    {
+        let step = self.optional(tokens, Symbol::Close)?;
+        self.for_body(tokens, in_function, Head { start, test, step })
+    }
+
+    /// A `for` behind the first semicolon of its head.
+    #[tactic(auto, unfolding(crate::specs::Statements::for_rest))]
+    pub fn for_rest(
+        &self,
+        tokens: &mut Cursor<'_>,
+        in_function: bool,
+        start: ForStart,
+    ) -> Result<Stmt, Failed>
+        requires { Deeper self.now.left (E.pre self.now.expr) (E.post self.now.expr) (M.pre self.now.member) (M.post self.now.member) (S.pre self.now.stmt) (S.post self.now.stmt) }
+        ensures { Reads (spec.for_rest CHAINS self.now.left (spec.within CHAINS self.now.left) in_function start tokens.old) result tokens.new }
+    {
+        let test = self.optional(tokens, Symbol::Semicolon)?;
+        self.for_step(tokens, in_function, start, test)
+    }
+
+    /// A `for` over keys behind its head.
+    pub fn each_key(
+        &self,
+        tokens: &mut Cursor<'_>,
+        in_function: bool,
+        head: KeysHead,
+    ) -> Result<Stmt, Failed>
+        requires { Deeper self.now.left (E.pre self.now.expr) (E.post self.now.expr) (M.pre self.now.member) (M.post self.now.member) (S.pre self.now.stmt) (S.post self.now.stmt) }
+        ensures { Reads (heads.each_key (spec.within CHAINS self.now.left) in_function head.target head.object tokens.old) result tokens.new }
+    {
+        let body = self.stmt(tokens, in_function, true)?;
+        Ok(turned_over(self.alloc, head, body)?)
+    }
+
+    /// A `for` over keys behind its `in`.
+    #[tactic(auto, unfolding(crate::specs::Statements::over_keys))]
+    pub fn over_keys(
+        &self,
+        tokens: &mut Cursor<'_>,
+        in_function: bool,
+        target: ForTarget,
+    ) -> Result<Stmt, Failed>
+        requires { Deeper self.now.left (E.pre self.now.expr) (E.post self.now.expr) (M.pre self.now.member) (M.post self.now.member) (S.pre self.now.stmt) (S.post self.now.stmt) }
+        ensures { Reads (spec.over_keys CHAINS self.now.left (spec.within CHAINS self.now.left) in_function target tokens.old) result tokens.new }
+    {
+        let object = self.assign(tokens, true)?;
+        tokens.expect(Symbol::Close)?;
+        self.each_key(tokens, in_function, KeysHead { target, object })
+    }
+
+    /// A `for` behind the first declaration of its head.
+    #[tactic(auto, unfolding(crate::specs::Statements::for_variables))]
+    pub fn for_variables(
+        &self,
+        tokens: &mut Cursor<'_>,
+        in_function: bool,
+        first: Declaration,
+    ) -> Result<Stmt, Failed>
+        requires { Deeper self.now.left (E.pre self.now.expr) (E.post self.now.expr) (M.pre self.now.member) (M.post self.now.member) (S.pre self.now.stmt) (S.post self.now.stmt) }
+        ensures { Reads (spec.for_variables CHAINS self.now.left (spec.within CHAINS self.now.left) in_function first tokens.old) result tokens.new }
+    {
+        let mut found = Items::new(self.alloc);
+        found.push(first)?;
+        let all = self.more_declared(tokens, false, found)?;
+        tokens.expect(Symbol::Semicolon)?;
+        self.for_rest(tokens, in_function, ForStart::Var(all))
+    }
+
+    /// A `for` behind the `var` of its head.
+    #[tactic(auto, unfolding(crate::specs::Statements::for_variable))]
+    pub fn for_variable(&self, tokens: &mut Cursor<'_>, in_function: bool) -> Result<Stmt, Failed>
+        requires { Deeper self.now.left (E.pre self.now.expr) (E.post self.now.expr) (M.pre self.now.member) (M.post self.now.member) (S.pre self.now.stmt) (S.post self.now.stmt) }
+        ensures { Reads (spec.for_variable CHAINS self.now.left (spec.within CHAINS self.now.left) in_function tokens.old) result tokens.new }
+    {
+        let name = name(tokens)?;
+        if let Some(_) = tokens.eat(Symbol::In) {
+            return self.over_keys(tokens, in_function, ForTarget::Var(name));
+        }
+        if let Some(_) = tokens.eat(Symbol::Assign) {
+            let value = Some(self.assign(tokens, false)?);
+            return self.for_variables(tokens, in_function, Declaration { name, value });
+        }
+        self.for_variables(tokens, in_function, Declaration { name, value: None })
+    }
+
+    /// A `for` whose head begins with an expression.
+    #[tactic(auto, unfolding(crate::specs::Statements::for_expression))]
+    pub fn for_expression(&self, tokens: &mut Cursor<'_>, in_function: bool) -> Result<Stmt, Failed>
+        requires { Deeper self.now.left (E.pre self.now.expr) (E.post self.now.expr) (M.pre self.now.member) (M.post self.now.member) (S.pre self.now.stmt) (S.post self.now.stmt) }
+        ensures { Reads (spec.for_expression CHAINS self.now.left (spec.within CHAINS self.now.left) in_function tokens.old) result tokens.new }
+    {
+        let first = self.assign(tokens, false)?;
+        if let Some(_) = tokens.eat_where(Symbol::In, make::is_target(&first)) {
+            return self.over_keys(tokens, in_function, ForTarget::Expression(first));
+        }
+        tokens.expect(Symbol::Semicolon)?;
+        self.for_rest(tokens, in_function, ForStart::Expression(first))
+    }
+
+    /// A `for` behind the bracket of its head.
+    #[tactic(auto, unfolding(crate::specs::Statements::for_head))]
+    pub fn for_head(&self, tokens: &mut Cursor<'_>, in_function: bool) -> Result<Stmt, Failed>
+        requires { Deeper self.now.left (E.pre self.now.expr) (E.post self.now.expr) (M.pre self.now.member) (M.post self.now.member) (S.pre self.now.stmt) (S.post self.now.stmt) }
+        ensures { Reads (spec.for_head CHAINS self.now.left (spec.within CHAINS self.now.left) in_function tokens.old) result tokens.new }
+    {
+        if let Some(_) = tokens.eat(Symbol::Semicolon) {
+            return self.for_rest(tokens, in_function, ForStart::Nothing);
+        }
+        if let Some(_) = tokens.eat(Symbol::Var) {
+            return self.for_variable(tokens, in_function);
+        }
+        self.for_expression(tokens, in_function)
+    }
+
+    /// A `for` behind its word.
+    #[tactic(auto, unfolding(crate::specs::Statements::each_turn))]
+    pub fn each_turn(&self, tokens: &mut Cursor<'_>, in_function: bool) -> Result<Stmt, Failed>
+        requires { Deeper self.now.left (E.pre self.now.expr) (E.post self.now.expr) (M.pre self.now.member) (M.post self.now.member) (S.pre self.now.stmt) (S.post self.now.stmt) }
+        ensures { Reads (spec.each_turn CHAINS self.now.left (spec.within CHAINS self.now.left) in_function tokens.old) result tokens.new }
+    {
+        tokens.expect(Symbol::Open)?;
+        self.for_head(tokens, in_function)
+    }
+}

@@ -1,0 +1,111 @@
+//! Members of object literals.
+ghost use Rattle.js_parser.specs.Reads.{Reads};
+ghost use Rattle.js_parser.specs.Nests.{Deeper};
+ghost use Rattle.js_parser.specs.Expressions as ex;
+ghost use Rattle.js_parser.specs.Pieces as pieces;
+ghost use Rattle.js_parser.specs.Statements as spec;
+
+use crate::cursor::{Cursor, Failed};
+use crate::functions::name;
+use crate::level::{CHAINS, Form, Level, Part};
+use crate::make;
+use crate::words::Set;
+use js_syntax::{Expr, ParseKind, Property, Stmt, Symbol, Token};
+use std::alloc::Global;
+
+impl<
+    E: Fn(Global, &mut Cursor<'_>, usize, Part) -> Result<Expr, Failed>,
+    M: Fn(Global, &mut Cursor<'_>, usize) -> Result<Property, Failed>,
+    S: Fn(Global, &mut Cursor<'_>, usize, Form, bool, bool) -> Result<Stmt, Failed>,
+> Level<E, M, S> {
+    #[tactic(auto, unfolding(crate::specs::Expressions::valued))]
+    fn valued(&self, tokens: &mut Cursor<'_>, key: &Token) -> Result<Property, Failed>
+        requires { Deeper self.now.left (E.pre self.now.expr) (E.post self.now.expr) (M.pre self.now.member) (M.post self.now.member) (S.pre self.now.stmt) (S.post self.now.stmt) }
+        ensures { Reads (ex.valued CHAINS self.now.left (spec.within CHAINS self.now.left) key.now.text tokens.old) result tokens.new }
+    {
+        let value = self.assign(tokens, true)?;
+        let key = key.text.share()?;
+        Ok(Property::Value(key, value))
+    }
+
+    #[tactic(auto, unfolding(crate::specs::Expressions::getter))]
+    fn getter(&self, tokens: &mut Cursor<'_>, key: &Token) -> Result<Property, Failed>
+        requires { Deeper self.now.left (E.pre self.now.expr) (E.post self.now.expr) (M.pre self.now.member) (M.post self.now.member) (S.pre self.now.stmt) (S.post self.now.stmt) }
+        ensures { Reads (ex.getter (spec.within CHAINS self.now.left) key.now.text tokens.old) result tokens.new }
+    {
+        tokens.expect(Symbol::Open)?;
+        tokens.expect(Symbol::Close)?;
+        let body = self.body(tokens)?;
+        let key = key.text.share()?;
+        Ok(make::getter(self.alloc, key, body)?)
+    }
+
+    #[tactic(auto, unfolding(crate::specs::Expressions::setter))]
+    fn setter(&self, tokens: &mut Cursor<'_>, key: &Token) -> Result<Property, Failed>
+        requires { Deeper self.now.left (E.pre self.now.expr) (E.post self.now.expr) (M.pre self.now.member) (M.post self.now.member) (S.pre self.now.stmt) (S.post self.now.stmt) }
+        ensures { Reads (ex.setter (spec.within CHAINS self.now.left) key.now.text tokens.old) result tokens.new }
+    {
+        tokens.expect(Symbol::Open)?;
+        let param = name(tokens)?;
+        tokens.expect(Symbol::Close)?;
+        let body = self.body(tokens)?;
+        let key = key.text.share()?;
+        Ok(make::setter(self.alloc, key, param, body)?)
+    }
+
+    /// What stands behind a `get`, which is a key where a colon follows.
+    #[tactic(auto, using(crate::proofs::Begun::taken, crate::proofs::Begun::passed, crate::proofs::Begun::refused))]
+    fn after_get(&self, tokens: &mut Cursor<'_>, word: &Token) -> Result<Property, Failed>
+        requires { Deeper self.now.left (E.pre self.now.expr) (E.post self.now.expr) (M.pre self.now.member) (M.post self.now.member) (S.pre self.now.stmt) (S.post self.now.stmt) }
+        ensures { Reads (ex.after_get CHAINS self.now.left (spec.within CHAINS self.now.left) word.now.text tokens.old) result tokens.new }
+    {
+        if let Some(_) = tokens.eat(Symbol::Colon) {
+            return self.valued(tokens, word);
+        }
+        if let Some(key) = tokens.begin_any(self.left, Set::Keys)? {
+            return self.getter(tokens, key);
+        }
+        Err(Failed::Fault(ParseKind::Unexpected))
+    }
+
+    /// What stands behind a `set`, which is a key where a colon follows.
+    #[tactic(auto, using(crate::proofs::Begun::taken, crate::proofs::Begun::passed, crate::proofs::Begun::refused))]
+    fn after_set(&self, tokens: &mut Cursor<'_>, word: &Token) -> Result<Property, Failed>
+        requires { Deeper self.now.left (E.pre self.now.expr) (E.post self.now.expr) (M.pre self.now.member) (M.post self.now.member) (S.pre self.now.stmt) (S.post self.now.stmt) }
+        ensures { Reads (ex.after_set CHAINS self.now.left (spec.within CHAINS self.now.left) word.now.text tokens.old) result tokens.new }
+    {
+        if let Some(_) = tokens.eat(Symbol::Colon) {
+            return self.valued(tokens, word);
+        }
+        if let Some(key) = tokens.begin_any(self.left, Set::Keys)? {
+            return self.setter(tokens, key);
+        }
+        Err(Failed::Fault(ParseKind::Unexpected))
+    }
+
+    fn keyed(&self, tokens: &mut Cursor<'_>, key: &Token) -> Result<Property, Failed>
+        requires { Deeper self.now.left (E.pre self.now.expr) (E.post self.now.expr) (M.pre self.now.member) (M.post self.now.member) (S.pre self.now.stmt) (S.post self.now.stmt) }
+        ensures { Reads (pieces.keyed CHAINS self.now.left (spec.within CHAINS self.now.left) key.now.text tokens.old) result tokens.new }
+    {
+        tokens.expect(Symbol::Colon)?;
+        self.valued(tokens, key)
+    }
+
+    /// A member of an object literal.
+    #[tactic(auto, unfolding(crate::specs::Expressions::member))]
+    pub fn member(&self, tokens: &mut Cursor<'_>) -> Result<Property, Failed>
+        requires { Deeper self.now.left (E.pre self.now.expr) (E.post self.now.expr) (M.pre self.now.member) (M.post self.now.member) (S.pre self.now.stmt) (S.post self.now.stmt) }
+        ensures { Reads (ex.member CHAINS self.now.left (spec.within CHAINS self.now.left) tokens.old) result tokens.new }
+    {
+        if let Some(word) = tokens.eat(Symbol::Get) {
+            return self.after_get(tokens, word);
+        }
+        if let Some(word) = tokens.eat(Symbol::Set) {
+            return self.after_set(tokens, word);
+        }
+        if let Some(key) = tokens.eat_any(Set::PlainKeys) {
+            return self.keyed(tokens, key);
+        }
+        Err(Failed::Fault(ParseKind::Unexpected))
+    }
+}

@@ -1,0 +1,126 @@
+//! Lists whose parts stand one level deeper.
+ghost use Rattle.std.specs.Prelude.{true};
+ghost use Rattle.js_syntax.specs.Symbols.{is};
+ghost use Rattle.token_readers.specs.Readers.{repeat};
+ghost use Rattle.js_parser.specs.Reads.{Reads};
+ghost use Rattle.js_parser.specs.Nests.{Deeper};
+ghost use Rattle.js_parser.specs.Expressions as ex;
+ghost use Rattle.js_parser.specs.Statements as spec;
+
+use crate::cursor::{Cursor, Failed};
+use crate::level::{CHAINS, Form, Level, Part};
+use js_syntax::{Expr, Property, Stmt, Symbol};
+use sqlite_items::Items;
+use std::alloc::Global;
+
+impl<
+    E: Fn(Global, &mut Cursor<'_>, usize, Part) -> Result<Expr, Failed>,
+    M: Fn(Global, &mut Cursor<'_>, usize) -> Result<Property, Failed>,
+    S: Fn(Global, &mut Cursor<'_>, usize, Form, bool, bool) -> Result<Stmt, Failed>,
+> Level<E, M, S> {
+    #[tactic(auto, unfolding(token_readers::specs::Readers::repeat, token_readers::specs::Readers::rounds))]
+    fn more_exprs(
+        &self,
+        tokens: &mut Cursor<'_>,
+        mut found: Items<Expr>,
+    ) -> Result<Items<Expr>, Failed>
+        requires { Deeper self.now.left (E.pre self.now.expr) (E.post self.now.expr) (M.pre self.now.member) (M.post self.now.member) (S.pre self.now.stmt) (S.post self.now.stmt) }
+        ensures { Reads (repeat ex.not_comma (ex.next_item ((spec.within CHAINS self.now.left).expr true)) found tokens.old) result tokens.new }
+    {
+        for _turn in 0..tokens.left() {
+            if let Some(_) = tokens.eat(Symbol::Comma) {
+                let item = self.expr(tokens, true)?;
+                found.push(item)?;
+            } else {
+                return Ok(found);
+            }
+        }
+        Ok(found)
+    }
+
+    /// Expressions with commas between.
+    #[tactic(auto, unfolding(crate::specs::Expressions::separated))]
+    pub fn exprs(&self, tokens: &mut Cursor<'_>) -> Result<Items<Expr>, Failed>
+        requires { Deeper self.now.left (E.pre self.now.expr) (E.post self.now.expr) (M.pre self.now.member) (M.post self.now.member) (S.pre self.now.stmt) (S.post self.now.stmt) }
+        ensures { Reads (ex.separated ((spec.within CHAINS self.now.left).expr true) tokens.old) result tokens.new }
+    {
+        let first = self.expr(tokens, true)?;
+        let mut found = Items::new(self.alloc);
+        found.push(first)?;
+        self.more_exprs(tokens, found)
+    }
+
+    #[tactic(auto, unfolding(crate::specs::Expressions::entry))]
+    fn element(&self, tokens: &mut Cursor<'_>) -> Result<Expr, Failed>
+        requires { Deeper self.now.left (E.pre self.now.expr) (E.post self.now.expr) (M.pre self.now.member) (M.post self.now.member) (S.pre self.now.stmt) (S.post self.now.stmt) }
+        ensures { Reads (ex.entry Symbol.CloseBracket ((spec.within CHAINS self.now.left).expr true) tokens.old) result tokens.new }
+    {
+        let item = self.expr(tokens, true)?;
+        tokens.part(Symbol::CloseBracket)?;
+        Ok(item)
+    }
+
+    #[tactic(auto, unfolding(crate::specs::Expressions::each, token_readers::specs::Readers::repeat, token_readers::specs::Readers::rounds))]
+    fn each_element(&self, tokens: &mut Cursor<'_>) -> Result<Items<Expr>, Failed>
+        requires { Deeper self.now.left (E.pre self.now.expr) (E.post self.now.expr) (M.pre self.now.member) (M.post self.now.member) (S.pre self.now.stmt) (S.post self.now.stmt) }
+        ensures { Reads (ex.each (is Symbol.CloseBracket) (ex.entry Symbol.CloseBracket ((spec.within CHAINS self.now.left).expr true)) tokens.old) result tokens.new }
+    {
+        let mut found = Items::new(self.alloc);
+        for _turn in 0..tokens.left() {
+            if tokens.stops(Symbol::CloseBracket) {
+                return Ok(found);
+            }
+            let item = self.element(tokens)?;
+            found.push(item)?;
+        }
+        Ok(found)
+    }
+
+    /// The elements of an array, and the bracket behind them.
+    #[tactic(auto, unfolding(crate::specs::Expressions::listed))]
+    pub fn elements(&self, tokens: &mut Cursor<'_>) -> Result<Items<Expr>, Failed>
+        requires { Deeper self.now.left (E.pre self.now.expr) (E.post self.now.expr) (M.pre self.now.member) (M.post self.now.member) (S.pre self.now.stmt) (S.post self.now.stmt) }
+        ensures { Reads (ex.listed Symbol.CloseBracket ((spec.within CHAINS self.now.left).expr true) tokens.old) result tokens.new }
+    {
+        let found = self.each_element(tokens)?;
+        tokens.expect(Symbol::CloseBracket)?;
+        Ok(found)
+    }
+
+    #[tactic(auto, unfolding(crate::specs::Expressions::entry))]
+    fn next_member(&self, tokens: &mut Cursor<'_>) -> Result<Property, Failed>
+        requires { Deeper self.now.left (E.pre self.now.expr) (E.post self.now.expr) (M.pre self.now.member) (M.post self.now.member) (S.pre self.now.stmt) (S.post self.now.stmt) }
+        ensures { Reads (ex.entry Symbol.CloseBrace (spec.within CHAINS self.now.left).member tokens.old) result tokens.new }
+    {
+        let item = self.member_below(tokens)?;
+        tokens.part(Symbol::CloseBrace)?;
+        Ok(item)
+    }
+
+    #[tactic(auto, unfolding(crate::specs::Expressions::each, token_readers::specs::Readers::repeat, token_readers::specs::Readers::rounds))]
+    fn each_member(&self, tokens: &mut Cursor<'_>) -> Result<Items<Property>, Failed>
+        requires { Deeper self.now.left (E.pre self.now.expr) (E.post self.now.expr) (M.pre self.now.member) (M.post self.now.member) (S.pre self.now.stmt) (S.post self.now.stmt) }
+        ensures { Reads (ex.each (is Symbol.CloseBrace) (ex.entry Symbol.CloseBrace (spec.within CHAINS self.now.left).member) tokens.old) result tokens.new }
+    {
+        let mut found = Items::new(self.alloc);
+        for _turn in 0..tokens.left() {
+            if tokens.stops(Symbol::CloseBrace) {
+                return Ok(found);
+            }
+            let item = self.next_member(tokens)?;
+            found.push(item)?;
+        }
+        Ok(found)
+    }
+
+    /// The members of an object literal, and the brace behind them.
+    #[tactic(auto, unfolding(crate::specs::Expressions::listed))]
+    pub fn members(&self, tokens: &mut Cursor<'_>) -> Result<Items<Property>, Failed>
+        requires { Deeper self.now.left (E.pre self.now.expr) (E.post self.now.expr) (M.pre self.now.member) (M.post self.now.member) (S.pre self.now.stmt) (S.post self.now.stmt) }
+        ensures { Reads (ex.listed Symbol.CloseBrace (spec.within CHAINS self.now.left).member tokens.old) result tokens.new }
+    {
+        let found = self.each_member(tokens)?;
+        tokens.expect(Symbol::CloseBrace)?;
+        Ok(found)
+    }
+}

@@ -1,0 +1,232 @@
+//! What stands first in an expression, and its suffixes.
+ghost use Rattle.std.specs.Prelude.{true};
+ghost use Rattle.js_syntax.specs.Symbols.{is, among};
+ghost use Rattle.token_readers.specs.Readers.{chain};
+ghost use Rattle.js_parser.specs.Reads.{Reads};
+ghost use Rattle.js_parser.specs.Nests.{Deeper};
+ghost use Rattle.js_parser.specs.Sets.{symbols_of};
+ghost use Rattle.js_parser.specs.Expressions as ex;
+ghost use Rattle.js_parser.specs.Pieces as pieces;
+ghost use Rattle.js_parser.specs.Statements as spec;
+
+use crate::cursor::{Cursor, Failed};
+use crate::level::{CHAINS, Form, Level, Part, refuse_part};
+use crate::make;
+use crate::words::{Set, is};
+use js_syntax::{Expr, ParseKind, Property, Stmt, Symbol, Token};
+use sqlite_items::Items;
+use std::alloc::Global;
+
+impl<
+    E: Fn(Global, &mut Cursor<'_>, usize, Part) -> Result<Expr, Failed>,
+    M: Fn(Global, &mut Cursor<'_>, usize) -> Result<Property, Failed>,
+    S: Fn(Global, &mut Cursor<'_>, usize, Form, bool, bool) -> Result<Stmt, Failed>,
+> Level<E, M, S> {
+    fn closed_exprs(&self, tokens: &mut Cursor<'_>) -> Result<Items<Expr>, Failed>
+        requires { Deeper self.now.left (E.pre self.now.expr) (E.post self.now.expr) (M.pre self.now.member) (M.post self.now.member) (S.pre self.now.stmt) (S.post self.now.stmt) }
+        ensures { Reads (pieces.some_arguments (spec.within CHAINS self.now.left) tokens.old) result tokens.new }
+    {
+        let all = self.exprs(tokens)?;
+        tokens.expect(Symbol::Close)?;
+        Ok(all)
+    }
+
+    /// The arguments of a call, and the bracket behind them.
+    #[tactic(auto, unfolding(crate::specs::Expressions::arguments, token_readers::specs::Readers::above))]
+    pub fn arguments(&self, tokens: &mut Cursor<'_>) -> Result<Items<Expr>, Failed>
+        requires { Deeper self.now.left (E.pre self.now.expr) (E.post self.now.expr) (M.pre self.now.member) (M.post self.now.member) (S.pre self.now.stmt) (S.post self.now.stmt) }
+        ensures { Reads (ex.arguments self.now.left (spec.within CHAINS self.now.left) tokens.old) result tokens.new }
+    {
+        if let Some(_) = tokens.eat(Symbol::Close) {
+            return Ok(Items::new(self.alloc));
+        }
+        if self.left == 0 {
+            return Err(refuse_part(tokens.sees_any(Set::ExprFirsts)));
+        }
+        self.closed_exprs(tokens)
+    }
+
+    /// An expression one level deeper, and a token that closes it.
+    pub fn closed(&self, tokens: &mut Cursor<'_>, close: Symbol) -> Result<Expr, Failed>
+        requires { Deeper self.now.left (E.pre self.now.expr) (E.post self.now.expr) (M.pre self.now.member) (M.post self.now.member) (S.pre self.now.stmt) (S.post self.now.stmt) }
+        ensures { Reads (ex.closed close ((spec.within CHAINS self.now.left).expr true) tokens.old) result tokens.new }
+    {
+        let inner = self.expr(tokens, true)?;
+        tokens.expect(close)?;
+        Ok(inner)
+    }
+
+    fn array(&self, tokens: &mut Cursor<'_>) -> Result<Expr, Failed>
+        requires { Deeper self.now.left (E.pre self.now.expr) (E.post self.now.expr) (M.pre self.now.member) (M.post self.now.member) (S.pre self.now.stmt) (S.post self.now.stmt) }
+        ensures { Reads (pieces.array_of (spec.within CHAINS self.now.left) tokens.old) result tokens.new }
+    {
+        let all = self.elements(tokens)?;
+        Ok(Expr::Array(all))
+    }
+
+    fn object(&self, tokens: &mut Cursor<'_>) -> Result<Expr, Failed>
+        requires { Deeper self.now.left (E.pre self.now.expr) (E.post self.now.expr) (M.pre self.now.member) (M.post self.now.member) (S.pre self.now.stmt) (S.post self.now.stmt) }
+        ensures { Reads (pieces.object_of (spec.within CHAINS self.now.left) tokens.old) result tokens.new }
+    {
+        let all = self.members(tokens)?;
+        Ok(Expr::Object(all))
+    }
+
+    fn function(&self, tokens: &mut Cursor<'_>) -> Result<Expr, Failed>
+        requires { Deeper self.now.left (E.pre self.now.expr) (E.post self.now.expr) (M.pre self.now.member) (M.post self.now.member) (S.pre self.now.stmt) (S.post self.now.stmt) }
+        ensures { Reads (pieces.function_of (spec.within CHAINS self.now.left) tokens.old) result tokens.new }
+    {
+        let function = self.named(tokens)?;
+        Ok(make::function(self.alloc, function)?)
+    }
+
+    /// An array, an object or a function.
+    #[tactic(auto, using(crate::proofs::Begun::taken, crate::proofs::Begun::passed, crate::proofs::Begun::refused))]
+    fn literal(&self, tokens: &mut Cursor<'_>) -> Result<Expr, Failed>
+        requires { Deeper self.now.left (E.pre self.now.expr) (E.post self.now.expr) (M.pre self.now.member) (M.post self.now.member) (S.pre self.now.stmt) (S.post self.now.stmt) }
+        ensures { Reads (pieces.literal self.now.left (spec.within CHAINS self.now.left) tokens.old) result tokens.new }
+    {
+        if let Some(_) = tokens.eat(Symbol::OpenBracket) {
+            return self.array(tokens);
+        }
+        if let Some(_) = tokens.eat(Symbol::OpenBrace) {
+            return self.object(tokens);
+        }
+        if let Some(_) = tokens.begin(self.left, Symbol::Function)? {
+            return self.function(tokens);
+        }
+        Err(Failed::Fault(ParseKind::Unexpected))
+    }
+
+    /// An expression that is none of smaller ones with an operator or a suffix.
+    #[tactic(auto, unfolding(crate::specs::Expressions::primary), using(crate::proofs::Begun::taken, crate::proofs::Begun::passed, crate::proofs::Begun::refused))]
+    pub fn primary(&self, tokens: &mut Cursor<'_>) -> Result<Expr, Failed>
+        requires { Deeper self.now.left (E.pre self.now.expr) (E.post self.now.expr) (M.pre self.now.member) (M.post self.now.member) (S.pre self.now.stmt) (S.post self.now.stmt) }
+        ensures { Reads (ex.primary self.now.left (spec.within CHAINS self.now.left) tokens.old) result tokens.new }
+    {
+        if let Some(token) = tokens.eat_any(Set::Leaves) {
+            return Ok(make::leaf(token)?);
+        }
+        if let Some(_) = tokens.begin(self.left, Symbol::Open)? {
+            return self.closed(tokens, Symbol::Close);
+        }
+        self.literal(tokens)
+    }
+
+    #[tactic(auto, unfolding(crate::specs::Expressions::new))]
+    fn new(&self, tokens: &mut Cursor<'_>) -> Result<Expr, Failed>
+        requires { Deeper self.now.left (E.pre self.now.expr) (E.post self.now.expr) (M.pre self.now.member) (M.post self.now.member) (S.pre self.now.stmt) (S.post self.now.stmt) }
+        ensures { Reads (ex.new self.now.left (spec.within CHAINS self.now.left) tokens.old) result tokens.new }
+    {
+        let callee = self.callee_below(tokens)?;
+        let given = match tokens.eat(Symbol::Open) {
+            Some(_) => self.arguments(tokens)?,
+            None => Items::new(self.alloc),
+        };
+        Ok(make::new(self.alloc, callee, given)?)
+    }
+
+    /// What suffixes follow.
+    #[tactic(auto, unfolding(crate::specs::Expressions::base), using(crate::proofs::Begun::taken, crate::proofs::Begun::passed, crate::proofs::Begun::refused))]
+    fn base(&self, tokens: &mut Cursor<'_>) -> Result<Expr, Failed>
+        requires { Deeper self.now.left (E.pre self.now.expr) (E.post self.now.expr) (M.pre self.now.member) (M.post self.now.member) (S.pre self.now.stmt) (S.post self.now.stmt) }
+        ensures { Reads (ex.base self.now.left (spec.within CHAINS self.now.left) tokens.old) result tokens.new }
+    {
+        if let Some(_) = tokens.begin(self.left, Symbol::New)? {
+            return self.new(tokens);
+        }
+        self.primary(tokens)
+    }
+
+    #[tactic(auto, unfolding(crate::specs::Expressions::index_of))]
+    fn index_of(&self, tokens: &mut Cursor<'_>, object: Expr) -> Result<Expr, Failed>
+        requires { Deeper self.now.left (E.pre self.now.expr) (E.post self.now.expr) (M.pre self.now.member) (M.post self.now.member) (S.pre self.now.stmt) (S.post self.now.stmt) }
+        ensures { Reads (ex.index_of (spec.within CHAINS self.now.left) object tokens.old) result tokens.new }
+    {
+        let place = self.closed(tokens, Symbol::CloseBracket)?;
+        Ok(make::index(self.alloc, object, place)?)
+    }
+
+    #[tactic(auto, unfolding(crate::specs::Expressions::call_of))]
+    fn call_of(&self, tokens: &mut Cursor<'_>, callee: Expr) -> Result<Expr, Failed>
+        requires { Deeper self.now.left (E.pre self.now.expr) (E.post self.now.expr) (M.pre self.now.member) (M.post self.now.member) (S.pre self.now.stmt) (S.post self.now.stmt) }
+        ensures { Reads (ex.call_of self.now.left (spec.within CHAINS self.now.left) callee tokens.old) result tokens.new }
+    {
+        let given = self.arguments(tokens)?;
+        Ok(make::call(self.alloc, callee, given)?)
+    }
+
+    /// The suffix that the mark begins.
+    #[tactic(auto, unfolding(crate::specs::Expressions::suffix))]
+    pub fn suffix(
+        &self,
+        tokens: &mut Cursor<'_>,
+        object: Expr,
+        mark: &Token,
+    ) -> Result<Expr, Failed>
+        requires { Deeper self.now.left (E.pre self.now.expr) (E.post self.now.expr) (M.pre self.now.member) (M.post self.now.member) (S.pre self.now.stmt) (S.post self.now.stmt) }
+        ensures { Reads (ex.suffix self.now.left (spec.within CHAINS self.now.left) object mark.now tokens.old) result tokens.new }
+    {
+        let symbol = mark.symbol();
+        if is(symbol, Symbol::Dot) {
+            return member_of(self.alloc, tokens, object);
+        }
+        if is(symbol, Symbol::OpenBracket) {
+            return self.index_of(tokens, object);
+        }
+        self.call_of(tokens, object)
+    }
+
+    /// The suffixes that begin with one of these.
+    #[tactic(auto, unfolding(token_readers::specs::Readers::chain))]
+    pub fn chain(&self, tokens: &mut Cursor<'_>, of: Set, mut found: Expr) -> Result<Expr, Failed>
+        requires { Deeper self.now.left (E.pre self.now.expr) (E.post self.now.expr) (M.pre self.now.member) (M.post self.now.member) (S.pre self.now.stmt) (S.post self.now.stmt) }
+        ensures { Reads (chain CHAINS (ex.denied self.now.left) (among (symbols_of of)) (ex.suffix self.now.left (spec.within CHAINS self.now.left)) found tokens.old) result tokens.new }
+    {
+        for _link in 0..CHAINS {
+            tokens.undenied(self.left)?;
+            if let Some(mark) = tokens.eat_any(of) {
+                found = self.suffix(tokens, found, mark)?;
+            } else {
+                return Ok(found);
+            }
+        }
+        if tokens.sees_any(of) {
+            return Err(Failed::Fault(ParseKind::TooDeep));
+        }
+        Ok(found)
+    }
+
+    /// An expression with its members, elements and calls.
+    #[tactic(auto, unfolding(crate::specs::Expressions::suffixed))]
+    pub fn suffixed(&self, tokens: &mut Cursor<'_>) -> Result<Expr, Failed>
+        requires { Deeper self.now.left (E.pre self.now.expr) (E.post self.now.expr) (M.pre self.now.member) (M.post self.now.member) (S.pre self.now.stmt) (S.post self.now.stmt) }
+        ensures { Reads (ex.suffixed CHAINS self.now.left (spec.within CHAINS self.now.left) tokens.old) result tokens.new }
+    {
+        let first = self.base(tokens)?;
+        self.chain(tokens, Set::Suffixes, first)
+    }
+
+    /// What a `new` is applied to.
+    #[tactic(auto, unfolding(crate::specs::Expressions::callee))]
+    pub fn callee(&self, tokens: &mut Cursor<'_>) -> Result<Expr, Failed>
+        requires { Deeper self.now.left (E.pre self.now.expr) (E.post self.now.expr) (M.pre self.now.member) (M.post self.now.member) (S.pre self.now.stmt) (S.post self.now.stmt) }
+        ensures { Reads (ex.callee CHAINS self.now.left (spec.within CHAINS self.now.left) tokens.old) result tokens.new }
+    {
+        let first = self.base(tokens)?;
+        self.chain(tokens, Set::MemberSuffixes, first)
+    }
+}
+
+#[tactic(auto, unfolding(crate::specs::Expressions::member_of))]
+fn member_of(alloc: Global, tokens: &mut Cursor<'_>, object: Expr) -> Result<Expr, Failed>
+    ensures { Reads (ex.member_of object tokens.old) result tokens.new }
+{
+    match tokens.eat_any(Set::MemberNames) {
+        Some(token) => {
+            let name = token.text.share()?;
+            Ok(make::member(alloc, object, name)?)
+        }
+        None => Err(Failed::Fault(ParseKind::Unexpected)),
+    }
+}

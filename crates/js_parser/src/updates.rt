@@ -1,0 +1,119 @@
+//! The operand of a `++` or `--` before it.
+ghost use Rattle.js_parser.specs.Reads.{Reads};
+ghost use Rattle.js_parser.specs.Nests.{Deeper};
+ghost use Rattle.js_parser.specs.Expressions as ex;
+ghost use Rattle.js_parser.specs.Statements as spec;
+
+use crate::cursor::{Cursor, Failed};
+use crate::level::{CHAINS, Form, Level, Part};
+use crate::make;
+use crate::operators::sees_postfix;
+use crate::words::Set;
+use js_syntax::{Expr, ParseKind, Property, Stmt, Symbol};
+use std::alloc::Global;
+
+/// How many of the suffixes may be calls.
+const CALLS: usize = CHAINS - 1;
+
+/// A name or a member, with no operator behind it.
+#[tactic(auto, unfolding(crate::specs::Expressions::accept))]
+fn accept(tokens: &Cursor<'_>, found: Expr) -> Result<Expr, Failed>
+    ensures { Reads (ex.accept found tokens.now) result tokens.now }
+{
+    if sees_postfix(tokens, &found) || !make::is_target(&found) {
+        return Err(Failed::Fault(ParseKind::Unexpected));
+    }
+    Ok(found)
+}
+
+impl<
+    E: Fn(Global, &mut Cursor<'_>, usize, Part) -> Result<Expr, Failed>,
+    M: Fn(Global, &mut Cursor<'_>, usize) -> Result<Property, Failed>,
+    S: Fn(Global, &mut Cursor<'_>, usize, Form, bool, bool) -> Result<Stmt, Failed>,
+> Level<E, M, S> {
+    #[tactic(auto, unfolding(crate::specs::Expressions::new_applied))]
+    fn new_applied(&self, tokens: &mut Cursor<'_>) -> Result<Expr, Failed>
+        requires { Deeper self.now.left (E.pre self.now.expr) (E.post self.now.expr) (M.pre self.now.member) (M.post self.now.member) (S.pre self.now.stmt) (S.post self.now.stmt) }
+        ensures { Reads (ex.new_applied self.now.left (spec.within CHAINS self.now.left) tokens.old) result tokens.new }
+    {
+        let callee = self.applied_below(tokens)?;
+        tokens.expect(Symbol::Open)?;
+        let given = self.arguments(tokens)?;
+        Ok(make::new(self.alloc, callee, given)?)
+    }
+
+    #[tactic(auto, unfolding(crate::specs::Expressions::target_base), using(crate::proofs::Begun::taken, crate::proofs::Begun::passed, crate::proofs::Begun::refused))]
+    fn target_base(&self, tokens: &mut Cursor<'_>) -> Result<Expr, Failed>
+        requires { Deeper self.now.left (E.pre self.now.expr) (E.post self.now.expr) (M.pre self.now.member) (M.post self.now.member) (S.pre self.now.stmt) (S.post self.now.stmt) }
+        ensures { Reads (ex.target_base self.now.left (spec.within CHAINS self.now.left) tokens.old) result tokens.new }
+    {
+        if let Some(_) = tokens.begin(self.left, Symbol::New)? {
+            return self.new_applied(tokens);
+        }
+        self.primary(tokens)
+    }
+
+    /// What a `new` is applied to here.
+    #[tactic(auto, unfolding(crate::specs::Expressions::applied))]
+    pub fn applied(&self, tokens: &mut Cursor<'_>) -> Result<Expr, Failed>
+        requires { Deeper self.now.left (E.pre self.now.expr) (E.post self.now.expr) (M.pre self.now.member) (M.post self.now.member) (S.pre self.now.stmt) (S.post self.now.stmt) }
+        ensures { Reads (ex.applied CHAINS self.now.left (spec.within CHAINS self.now.left) tokens.old) result tokens.new }
+    {
+        let first = self.target_base(tokens)?;
+        self.chain(tokens, Set::MemberSuffixes, first)
+    }
+
+    #[tactic(auto, unfolding(crate::specs::Expressions::target_chain))]
+    fn past_suffixes(&self, tokens: &mut Cursor<'_>, found: Expr) -> Result<Expr, Failed>
+        requires { Deeper self.now.left (E.pre self.now.expr) (E.post self.now.expr) (M.pre self.now.member) (M.post self.now.member) (S.pre self.now.stmt) (S.post self.now.stmt) }
+        ensures { Reads (ex.target_chain 0 self.now.left (spec.within CHAINS self.now.left) found tokens.old) result tokens.new }
+    {
+        if tokens.sees_any(Set::Suffixes) {
+            return Err(Failed::Fault(ParseKind::TooDeep));
+        }
+        accept(tokens, found)
+    }
+
+    /// In the last place stands no call.
+    #[tactic(auto, unfolding(crate::specs::Expressions::target_chain), using(token_readers::proofs::Loops::deny_passes, crate::proofs::Links::denied))]
+    fn last_suffix(&self, tokens: &mut Cursor<'_>, found: Expr) -> Result<Expr, Failed>
+        requires { Deeper self.now.left (E.pre self.now.expr) (E.post self.now.expr) (M.pre self.now.member) (M.post self.now.member) (S.pre self.now.stmt) (S.post self.now.stmt) }
+        ensures { Reads (ex.target_chain 1 self.now.left (spec.within CHAINS self.now.left) found tokens.old) result tokens.new }
+    {
+        tokens.undenied(self.left)?;
+        if let Some(mark) = tokens.eat_any(Set::MemberSuffixes) {
+            let found = self.suffix(tokens, found, mark)?;
+            return self.past_suffixes(tokens, found);
+        }
+        if tokens.sees(Symbol::Open) {
+            return Err(Failed::Fault(ParseKind::TooDeep));
+        }
+        accept(tokens, found)
+    }
+
+    #[tactic(auto, unfolding(crate::specs::Expressions::target_chain))]
+    fn target_suffixes(&self, tokens: &mut Cursor<'_>, mut found: Expr) -> Result<Expr, Failed>
+        requires { Deeper self.now.left (E.pre self.now.expr) (E.post self.now.expr) (M.pre self.now.member) (M.post self.now.member) (S.pre self.now.stmt) (S.post self.now.stmt) }
+        ensures { Reads (ex.target_chain CHAINS self.now.left (spec.within CHAINS self.now.left) found tokens.old) result tokens.new }
+    {
+        for _link in 0..CALLS {
+            tokens.undenied(self.left)?;
+            if let Some(mark) = tokens.eat_any(Set::Suffixes) {
+                found = self.suffix(tokens, found, mark)?;
+            } else {
+                return accept(tokens, found);
+            }
+        }
+        self.last_suffix(tokens, found)
+    }
+
+    /// A name or a member that a `++` or `--` stands before.
+    #[tactic(auto, unfolding(crate::specs::Expressions::update_target))]
+    pub fn update_target(&self, tokens: &mut Cursor<'_>) -> Result<Expr, Failed>
+        requires { Deeper self.now.left (E.pre self.now.expr) (E.post self.now.expr) (M.pre self.now.member) (M.post self.now.member) (S.pre self.now.stmt) (S.post self.now.stmt) }
+        ensures { Reads (ex.update_target CHAINS self.now.left (spec.within CHAINS self.now.left) tokens.old) result tokens.new }
+    {
+        let first = self.target_base(tokens)?;
+        self.target_suffixes(tokens, first)
+    }
+}
