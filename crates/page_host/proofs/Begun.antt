@@ -19,25 +19,20 @@ turns_begun input before (task ∷ tasks) marks (turn, more, whole, is, rest) = 
 lawful_begun : (input : Input) (marks : List Mark) → IsLawful input marks → IsLawfulSoFar input marks
 lawful_begun input marks is = turns_begun input [] (tasks_of input) marks is
 
-none_begun : (input : Input) (before : List Mark) (tasks : List Task) → AreTurnsSoFar input before tasks []
-unfolding AreTurnsSoFar
-none_begun input before [] = refl
-none_begun input before (task ∷ tasks) = inl refl
-
 acts_begun : (setups : Setups) (i : Actor) (marks : List Mark) → ActsAreSolo setups i marks → ActsAreSoloSoFar setups i marks
 acts_begun setups i marks is =
     let P : List Deed → Type 0 = λ deeds. AreSolo setups i marks deeds in
-    record { due = []; one = omega arith; same = subst P (sym (append-nil (closed_deeds setups i marks))) is }
+    record { due = []; one = omega arith; none = λ idle. refl; same = subst P (sym (append-nil (closed_deeds setups i marks))) is }
 
 no_acts : (setups : Setups) (i : Actor) → ActsAreSoloSoFar setups i []
 unfolding IsSoloFrom shows_of view_from deeds_of
-no_acts setups i = record { due = []; one = omega arith; same = refl }
+no_acts setups i = record { due = []; one = omega arith; none = λ idle. refl; same = refl }
 
 -- the empty journal
 pub empty_right : (words : List (List ℕ)) (told : Option Files) (marks : List Mark) → marks ≡ [] → IsRightSoFar words told marks
 empty_right words told marks none =
     let P : List Mark → Type 0 = λ ms. IsRightSoFar words told ms in
-    subst P (sym none) (record { lawful = inl (λ input. none_begun input [] (tasks_of input)); genuine = tt; acts = λ address i other. no_acts (setups_of address) i })
+    subst P (sym none) (record { lawful = inl refl; genuine = tt; acts = λ address i other. no_acts (setups_of address) i })
 
 -- a whole journal
 pub whole_right : (words : List (List ℕ)) (told : Option Files) (marks other : List Mark) (bytes : List ℕ) → other ≡ marks → IsRightOver words told marks bytes → ((address : List ℕ) → AllActsAreSolo address marks) → IsRightSoFar words told other

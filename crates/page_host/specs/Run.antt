@@ -1,5 +1,5 @@
 -- What a run of the form that is built makes; this project's own.
-use Rattle.std.specs.Prelude.{◌≡◌, ◌≢◌, ◌≤◌, ◌⊎◌, ℕ, true, false, List, codes, length, nat_eq, if◌then◌else◌, Option, Some, None, IfSome}
+use Rattle.std.specs.Prelude.{◌≡◌, ◌≢◌, ◌≤◌, ◌⊎◌, ℕ, true, false, List, [], codes, length, nat_eq, if◌then◌else◌, Option, Some, None, IfSome}
 use Rattle.outside.specs.Contents.{Files, content}
 use Rattle.door.specs.declared.grants.GrantSet.{GrantSet}
 use Rattle.door.specs.declared.marks.Mark.{Mark}
@@ -80,9 +80,9 @@ pub record IsBegun (words : List (List ℕ)) (told : Option Files) (marks : List
   pub given : Given words files
   pub lawful : IsLawfulSoFar (input_of given.page (texts_in given.scripts)) marks
 
--- What holds of the journal of a run that ended early: its turns are those of the run as far as they came, and those of every run where
--- none came; its answers are the true ones, and each actor but the host did what its own machine does by itself, but for one deed at most.
+-- What holds of the journal of a run that ended early: it is empty, or its turns are those of the run as far as they came; its answers are
+-- the true ones, and each actor but the host did what its own machine does by itself, but for one deed at most of the one that was running.
 pub record IsRightSoFar (words : List (List ℕ)) (told : Option Files) (marks : List Mark) : Type 0 where
-  pub lawful : ((input : Input) → IsLawfulSoFar input marks) ⊎ IsBegun words told marks
+  pub lawful : (marks ≡ []) ⊎ IsBegun words told marks
   pub genuine : IsGenuine marks
   pub acts : (address : List ℕ) (i : Actor) → i ≢ the_host → ActsAreSoloSoFar (setups_of address) i marks

@@ -287,21 +287,17 @@ fn status_with<R: Abort + AllocGlobal>(
     title: usize,
 ) -> Result<u8, Fail> {
     let alloc = rt.alloc();
-    let words = joined(alloc, &["run http://", letters(alloc, host)?.as_str(), "/"])?;
-    let lines = joined(
-        alloc,
-        &["GM_log(\"", letters(alloc, logged)?.as_str(), "\");\n"],
-    )?;
+    let host = letters(alloc, host)?;
+    let words = joined(alloc, &["run http://", host.as_str(), "/"])?;
+    let logged = letters(alloc, logged)?;
+    let lines = joined(alloc, &["GM_log(\"", logged.as_str(), "\");\n"])?;
+    let title = letters(alloc, title)?;
     let start = "<html><head><title>";
     let end = "</title></head><body></body></html>";
-    let page = joined(alloc, &[start, letters(alloc, title)?.as_str(), end])?;
-    let scripts = [("a.user.js", "a", lines.as_str())];
-    let run = Run {
-        words: words.as_str(),
-        page: page.as_str(),
-        ..first(&scripts)
-    };
-    Ok(run_of(rt, run)?.ended.status)
+    let mut files = Vec::new(alloc);
+    files.push(file(alloc, "page.html", &[start, title.as_str(), end])?)?;
+    files.push(script(alloc, "a.user.js", "a", lines.as_str())?)?;
+    Ok(run_over(rt, words.as_str(), files, 0, 0)?.ended.status)
 }
 
 #[test]

@@ -1,5 +1,5 @@
 -- How long an actor is closed, which is how long it is said to do what its own machine does; this project's own (after MDN on Xray vision).
-use Rattle.std.specs.Prelude.{◌≡◌, ◌≤◌, ◌&&◌, ◌||◌, ℕ, Bool, true, false, not, List, [], ◌∷◌, ◌++◌, length, nat_le, if◌then◌else◌}
+use Rattle.std.specs.Prelude.{◌≡◌, ◌≤◌, ◌&&◌, ◌||◌, ℕ, Bool, true, false, not, List, [], ◌∷◌, ◌++◌, drop, length, nat_le, take, if◌then◌else◌}
 use Rattle.std.specs.List.{list_any, take_while}
 use Rattle.door.specs.declared.values.Actor.{Actor}
 use Rattle.door.specs.declared.zones.Zone.{Zone}
@@ -7,7 +7,7 @@ use Rattle.door.specs.declared.zones.Zone.TheVariants.{PlainScript}
 use Rattle.door.specs.declared.requests.Request.{Request}
 use Rattle.door.specs.declared.requests.Request.TheVariants.{Reach}
 use Rattle.door.specs.declared.marks.Mark.{Mark}
-use Rattle.door.specs.declared.marks.Mark.TheVariants.{Enter, Ask}
+use Rattle.door.specs.declared.marks.Mark.TheVariants.{Enter, Ask, Leave}
 use Rattle.solo_model.specs.Things.{the_page}
 use Rattle.solo_model.specs.View.{Met, Seen, is_actor, met_of, named_request, view_of}
 use Rattle.solo_model.specs.Solo.{Deed, IsSoloFrom, Requests, beginning, deeds_of, shows_of}
@@ -74,8 +74,20 @@ AreSolo setups i marks deeds = IsSoloFrom (enters (setups i)) (beginning Fresh) 
 abbrev pub ActsAreSolo : Setups → Actor → List Mark → Type 0
 ActsAreSolo setups i marks = AreSolo setups i marks (closed_deeds setups i marks)
 
--- the same of a journal that was cut off, where one deed may be missing
+-- the actors of the entries that have no end yet, the innermost first; outer ones were entered before
+abbrev pub entered_in : List Actor → List Mark → List Actor
+entered_in outer [] = outer
+entered_in outer (Enter j entry ∷ marks) = entered_in (j ∷ outer) marks
+entered_in outer (Leave j outcome units ∷ marks) = entered_in (drop 1 outer) marks
+entered_in outer (mark ∷ marks) = entered_in outer marks
+
+-- the actor was running where the journal was cut off
+abbrev pub is_running : Actor → List Mark → Bool
+is_running i marks = list_any (is_actor i) (take 1 (entered_in [] marks))
+
+-- the same of a journal that was cut off, where one deed may be missing of the actor that was running
 pub record ActsAreSoloSoFar (setups : Setups) (i : Actor) (marks : List Mark) : Type 0 where
   pub due : List Deed
   pub one : length due ≤ 1
+  pub none : is_running i marks ≡ false → due ≡ []
   pub same : AreSolo setups i marks (closed_deeds setups i marks ++ due)

@@ -1,5 +1,5 @@
 use Rattle.std.proofs.Common.{◌∙◌}
-use Rattle.dom_query.proofs.Tests.{has_class-some, has_class-none}
+use Rattle.dom_query.proofs.SingleTests.{has_class-some, has_class-none}
 use Rattle.dom_query.proofs.fits.has_class.Goals as goal
 
 pub returns-in-Some : goal.returns-in-Some

@@ -1,5 +1,5 @@
 use Rattle.std.proofs.Common.{◌∙◌}
-use Rattle.dom_query.proofs.Tests.{has_id-some, has_id-none}
+use Rattle.dom_query.proofs.SingleTests.{has_id-some, has_id-none}
 use Rattle.dom_query.proofs.fits.has_id.Goals as goal
 
 pub returns-in-Some : goal.returns-in-Some

@@ -1,7 +1,7 @@
 use Rattle.std.proofs.Common.{ap, sym, ◌∙◌}
 use Rattle.door.specs.Forest.{form_at}
 use Rattle.dom_tree.specs.Forms.{form_of}
-use Rattle.dom_query.proofs.Tests.{of_tag-star, of_tag-name}
+use Rattle.dom_query.proofs.SingleTests.{of_tag-star, of_tag-name}
 use Rattle.dom_query.proofs.queries.is_of_tag.Goals as goal
 
 pub returns-then-is_text : goal.returns-then-is_text
