@@ -6,17 +6,17 @@ use Rattle.js_syntax.specs.declared.tree.Expr.{Expr}
 use Rattle.js_syntax.specs.declared.tree.Stmt.{Stmt}
 use Rattle.js_syntax.specs.Symbols.{Tokens, next, sees}
 use Rattle.token_readers.specs.Readers.{Outcome, not_taken}
-use Rattle.js_parser.specs.declared.cursor.Failed.{Failed}
-use Rattle.js_parser.specs.declared.cursor.Failed.TheVariants.{Fault}
+use Rattle.script_pieces.specs.declared.cursor.Failed.{Failed}
+use Rattle.script_pieces.specs.declared.cursor.Failed.TheVariants.{Fault}
 use Rattle.js_parser.specs.declared.level.Part.{Part}
 use Rattle.js_parser.specs.declared.level.Part.TheVariants as part
 use Rattle.js_parser.specs.declared.level.Form.{Form}
 use Rattle.js_parser.specs.declared.level.Form.TheVariants as form
-use Rattle.js_parser.specs.Reads.{Reads}
+use Rattle.script_pieces.specs.Reads.{Reads}
 use Rattle.js_parser.specs.Nests.{part_of, form_of}
 use Rattle.js_parser.specs.Parts.{begins_part, begins_form}
-use Rattle.js_parser.specs.Statements.{within}
-use Rattle.js_parser.proofs.Turns.{deeper}
+use Rattle.script_readers.specs.Statements.{within}
+use Rattle.script_readers.proofs.Turns.{deeper}
 
 abbrev refusal : {A : Type 0} → Tokens → Bool → Outcome A
 refusal ts b = cond b (Err (TooDeep, ts)) (Err (Unexpected, ts))

@@ -1,15 +1,9 @@
 -- What is claimed of an answer.
-use Rattle.std.specs.Prelude.{◌≡◌, ℕ, List, [], ◌∷◌, Result, Ok, Err}
+use Rattle.std.specs.Prelude.{◌≡◌, Result, Ok, Err}
 use Rattle.base_text.specs.declared.memory.OrMemory.{OrMemory}
 use Rattle.base_text.specs.declared.memory.OrMemory.TheVariants.{Fault, NoMemory}
 use Rattle.js_syntax.specs.declared.parse_fault.ParseFault.{ParseFault}
 use Rattle.js_syntax.specs.declared.tree.Script.{Script}
-use Rattle.js_syntax.specs.Symbols.{Tokens}
-
--- the place of the first token
-abbrev pub place : Tokens → ℕ
-place [] = 0
-place (t ∷ ts) = t.from
 
 -- this script, unless memory ran out
 abbrev pub OkOrMemory : Result Script (OrMemory ParseFault) → Script → Type 0

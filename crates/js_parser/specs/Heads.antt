@@ -7,8 +7,8 @@ use Rattle.js_syntax.specs.declared.tree.ForTarget.{ForTarget}
 use Rattle.js_syntax.specs.declared.tree.Stmt.{Stmt}
 use Rattle.js_syntax.specs.declared.tree.Stmt.TheVariants as st
 use Rattle.token_readers.specs.Readers.{Reader, ◌>>=◌, pure}
-use Rattle.js_parser.specs.Expressions.{Inside}
-use Rattle.js_parser.specs.Statements.{optional}
+use Rattle.script_readers.specs.Expressions.{Inside}
+use Rattle.script_readers.specs.Statements.{optional}
 
 -- behind its head
 abbrev pub for_body : Inside → Bool → ForStart → Option Expr → Option Expr → Reader Stmt

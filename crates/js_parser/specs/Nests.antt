@@ -7,14 +7,14 @@ use Rattle.js_syntax.specs.declared.tree.Property.{Property}
 use Rattle.js_syntax.specs.declared.tree.Stmt.{Stmt}
 use Rattle.js_syntax.specs.Symbols.{Tokens}
 use Rattle.token_readers.specs.Readers.{Reader}
-use Rattle.js_parser.specs.declared.cursor.Failed.{Failed}
+use Rattle.script_pieces.specs.declared.cursor.Failed.{Failed}
 use Rattle.js_parser.specs.declared.level.Part.{Part}
 use Rattle.js_parser.specs.declared.level.Part.TheVariants as part
 use Rattle.js_parser.specs.declared.level.Form.{Form}
 use Rattle.js_parser.specs.declared.level.Form.TheVariants as form
-use Rattle.js_parser.specs.Reads.{Reads}
-use Rattle.js_parser.specs.Expressions.{Inside}
-use Rattle.js_parser.specs.Statements.{within}
+use Rattle.script_pieces.specs.Reads.{Reads}
+use Rattle.script_readers.specs.Expressions.{Inside}
+use Rattle.script_readers.specs.Statements.{within}
 
 -- the reader of a part of an expression
 abbrev pub part_of : Inside → Part → Reader Expr

@@ -7,8 +7,8 @@ use Rattle.js_parser.specs.declared.level.Part.{Part}
 use Rattle.js_parser.specs.declared.level.Part.TheVariants as part
 use Rattle.js_parser.specs.declared.level.Form.{Form}
 use Rattle.js_parser.specs.declared.level.Form.TheVariants as form
-use Rattle.js_parser.specs.Expressions.{expr_firsts, base_firsts}
-use Rattle.js_parser.specs.Statements.{begins_stmt}
+use Rattle.script_readers.specs.Expressions.{expr_firsts, base_firsts}
+use Rattle.script_readers.specs.Statements.{begins_stmt}
 
 -- what begins a part of an expression
 abbrev pub begins_part : Part → Token → Bool

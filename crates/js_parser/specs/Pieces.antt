@@ -9,7 +9,7 @@ use Rattle.js_syntax.specs.declared.tree.Property.{Property}
 use Rattle.js_syntax.specs.Symbols.{is, among, symbol_of}
 use Rattle.js_syntax.specs.Words.{assignment, assigns, prefixed, update_of, updates}
 use Rattle.token_readers.specs.Readers.{Reader, ◌>>=◌, pure, refuse, on, expect, begin}
-use Rattle.js_parser.specs.Expressions.{Inside, closed, separated, listed, named, valued, choices, postfix}
+use Rattle.script_readers.specs.Expressions.{Inside, closed, separated, listed, named, valued, choices, postfix}
 
 -- the arguments of a call, where there are some
 abbrev pub some_arguments : Inside → Reader (List Expr)

@@ -1,13 +1,13 @@
 //! Statements one after another, and blocks (ECMAScript, 14.2).
-ghost use Rattle.js_parser.specs.Reads.{Reads};
+ghost use Rattle.script_pieces.specs.Reads.{Reads};
 ghost use Rattle.js_parser.specs.Nests.{Deeper};
-ghost use Rattle.js_parser.specs.Statements as spec;
+ghost use Rattle.script_readers.specs.Statements as spec;
 ghost use Rattle.js_syntax.specs.Words.{closes_body};
-ghost use Rattle.js_parser.specs.Expressions.{each};
+ghost use Rattle.script_readers.specs.Expressions.{each};
 
-use crate::cursor::{Cursor, Failed};
 use crate::level::{CHAINS, Form, Level, Part};
 use js_syntax::{Expr, Property, Stmt, Symbol};
+use script_pieces::{Cursor, Failed};
 use sqlite_items::Items;
 use std::alloc::Global;
 
@@ -17,7 +17,7 @@ impl<
     S: Fn(Global, &mut Cursor<'_>, usize, Form, bool, bool) -> Result<Stmt, Failed>,
 > Level<E, M, S> {
     /// The statements one level deeper, up to a token that closes them.
-    #[tactic(auto, unfolding(crate::specs::Expressions::each, token_readers::specs::Readers::repeat, token_readers::specs::Readers::rounds))]
+    #[tactic(auto, unfolding(script_readers::specs::Expressions::each, token_readers::specs::Readers::repeat, token_readers::specs::Readers::rounds))]
     pub fn statements(
         &self,
         tokens: &mut Cursor<'_>,
@@ -39,7 +39,7 @@ impl<
     }
 
     /// A block behind its first brace.
-    #[tactic(auto, unfolding(crate::specs::Statements::block_rest))]
+    #[tactic(auto, unfolding(script_readers::specs::Statements::block_rest))]
     pub fn block_rest(
         &self,
         tokens: &mut Cursor<'_>,
@@ -55,7 +55,7 @@ impl<
     }
 
     /// A block of this level.
-    #[tactic(auto, unfolding(crate::specs::Statements::block))]
+    #[tactic(auto, unfolding(script_readers::specs::Statements::block))]
     pub fn braces(
         &self,
         tokens: &mut Cursor<'_>,

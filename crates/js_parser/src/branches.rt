@@ -1,12 +1,11 @@
 //! `if` and `while` (ECMAScript, 14.6 and 14.7.3).
-ghost use Rattle.js_parser.specs.Reads.{Reads};
+ghost use Rattle.script_pieces.specs.Reads.{Reads};
 ghost use Rattle.js_parser.specs.Nests.{Deeper};
-ghost use Rattle.js_parser.specs.Statements as spec;
+ghost use Rattle.script_readers.specs.Statements as spec;
 
-use crate::cursor::{Cursor, Failed};
 use crate::level::{CHAINS, Form, Level, Part};
-use crate::make;
 use js_syntax::{Expr, Property, Stmt, Symbol};
+use script_pieces::{Cursor, Failed, make};
 use std::alloc::Global;
 
 impl<
@@ -15,7 +14,7 @@ impl<
     S: Fn(Global, &mut Cursor<'_>, usize, Form, bool, bool) -> Result<Stmt, Failed>,
 > Level<E, M, S> {
     /// An expression in brackets.
-    #[tactic(auto, unfolding(crate::specs::Statements::condition))]
+    #[tactic(auto, unfolding(script_readers::specs::Statements::condition))]
     pub fn condition(&self, tokens: &mut Cursor<'_>) -> Result<Expr, Failed>
         requires { Deeper self.now.left (E.pre self.now.expr) (E.post self.now.expr) (M.pre self.now.member) (M.post self.now.member) (S.pre self.now.stmt) (S.post self.now.stmt) }
         ensures { Reads (spec.condition CHAINS self.now.left (spec.within CHAINS self.now.left) tokens.old) result tokens.new }
@@ -27,7 +26,7 @@ impl<
     }
 
     /// The `else` of the nearest `if`, where it has one.
-    #[tactic(auto, unfolding(crate::specs::Statements::otherwise))]
+    #[tactic(auto, unfolding(script_readers::specs::Statements::otherwise))]
     pub fn otherwise(
         &self,
         tokens: &mut Cursor<'_>,
@@ -45,7 +44,7 @@ impl<
     }
 
     /// An `if` behind its word.
-    #[tactic(auto, unfolding(crate::specs::Statements::branch))]
+    #[tactic(auto, unfolding(script_readers::specs::Statements::branch))]
     pub fn branch(
         &self,
         tokens: &mut Cursor<'_>,
@@ -62,7 +61,7 @@ impl<
     }
 
     /// A `while` behind its word.
-    #[tactic(auto, unfolding(crate::specs::Statements::repetition))]
+    #[tactic(auto, unfolding(script_readers::specs::Statements::repetition))]
     pub fn repetition(&self, tokens: &mut Cursor<'_>, in_function: bool) -> Result<Stmt, Failed>
         requires { Deeper self.now.left (E.pre self.now.expr) (E.post self.now.expr) (M.pre self.now.member) (M.post self.now.member) (S.pre self.now.stmt) (S.post self.now.stmt) }
         ensures { Reads (spec.repetition CHAINS self.now.left (spec.within CHAINS self.now.left) in_function tokens.old) result tokens.new }

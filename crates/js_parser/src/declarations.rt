@@ -1,15 +1,13 @@
 //! Declarations of variables and functions (ECMAScript, 14.3 and 15.2).
-ghost use Rattle.js_parser.specs.Reads.{Reads};
+ghost use Rattle.script_pieces.specs.Reads.{Reads};
 ghost use Rattle.js_parser.specs.Nests.{Deeper};
-ghost use Rattle.js_parser.specs.Statements as spec;
+ghost use Rattle.script_readers.specs.Statements as spec;
 ghost use Rattle.token_readers.specs.Readers.{repeat};
-ghost use Rattle.js_parser.specs.Expressions.{not_comma, next_item};
+ghost use Rattle.script_readers.specs.Expressions.{not_comma, next_item};
 
-use crate::cursor::{Cursor, Failed};
-use crate::functions::name;
 use crate::level::{CHAINS, Form, Level, Part};
-use crate::make::declared;
 use js_syntax::{Declaration, Expr, Property, Stmt, Symbol};
+use script_pieces::{Cursor, Failed, make, name};
 use sqlite_items::Items;
 use std::alloc::Global;
 
@@ -19,7 +17,7 @@ impl<
     S: Fn(Global, &mut Cursor<'_>, usize, Form, bool, bool) -> Result<Stmt, Failed>,
 > Level<E, M, S> {
     /// A name, and the value that it begins with.
-    #[tactic(auto, unfolding(crate::specs::Statements::declared))]
+    #[tactic(auto, unfolding(script_readers::specs::Statements::declared))]
     pub fn declared(&self, tokens: &mut Cursor<'_>, in_is: bool) -> Result<Declaration, Failed>
         requires { Deeper self.now.left (E.pre self.now.expr) (E.post self.now.expr) (M.pre self.now.member) (M.post self.now.member) (S.pre self.now.stmt) (S.post self.now.stmt) }
         ensures { Reads (spec.declared CHAINS self.now.left (spec.within CHAINS self.now.left) in_is tokens.old) result tokens.new }
@@ -55,7 +53,7 @@ impl<
     }
 
     /// A `var` statement behind its word.
-    #[tactic(auto, unfolding(crate::specs::Statements::variables, crate::specs::Expressions::separated))]
+    #[tactic(auto, unfolding(script_readers::specs::Statements::variables, script_readers::specs::Expressions::separated))]
     pub fn variables(&self, tokens: &mut Cursor<'_>) -> Result<Stmt, Failed>
         requires { Deeper self.now.left (E.pre self.now.expr) (E.post self.now.expr) (M.pre self.now.member) (M.post self.now.member) (S.pre self.now.stmt) (S.post self.now.stmt) }
         ensures { Reads (spec.variables CHAINS self.now.left (spec.within CHAINS self.now.left) tokens.old) result tokens.new }
@@ -69,13 +67,13 @@ impl<
     }
 
     /// A declared function behind its word.
-    #[tactic(auto, unfolding(crate::specs::Statements::function_declared))]
+    #[tactic(auto, unfolding(script_readers::specs::Statements::function_declared))]
     pub fn function_declared(&self, tokens: &mut Cursor<'_>) -> Result<Stmt, Failed>
         requires { Deeper self.now.left (E.pre self.now.expr) (E.post self.now.expr) (M.pre self.now.member) (M.post self.now.member) (S.pre self.now.stmt) (S.post self.now.stmt) }
         ensures { Reads (spec.function_declared (spec.within CHAINS self.now.left) tokens.old) result tokens.new }
     {
         let name = name(tokens)?;
         let function = self.lambda(tokens, Some(name))?;
-        Ok(declared(self.alloc, function)?)
+        Ok(make::declared(self.alloc, function)?)
     }
 }

@@ -4,21 +4,21 @@ ghost use Rattle.js_syntax.specs.declared.tree.Script.{Script};
 ghost use Rattle.js_syntax.specs.declared.parse_fault.ParseFault.{ParseFault};
 ghost use Rattle.js_syntax.specs.Scripts.{IsScript, IsFirstFault, EndsWell, CHAIN_LIMIT, LEVEL_LIMIT};
 ghost use Rattle.js_parser.specs.Answers.{OkOrMemory, IfFault, FaultOrMemory};
-ghost use Rattle.js_parser.specs.Reads.{Reads};
-ghost use Rattle.js_parser.specs.Statements.{top};
+ghost use Rattle.script_pieces.specs.Reads.{Reads};
+ghost use Rattle.script_readers.specs.Statements.{top};
 
-use crate::cursor::{Cursor, Failed, place};
 use crate::level::{CHAINS, Level};
 use crate::parts::{expr, member, stmt};
 use base_text::OrMemory;
 use js_syntax::{ParseFault, ParseKind, Script, Stmt, Token};
+use script_pieces::{Cursor, Failed, place};
 use sqlite_items::Items;
 use std::alloc::Global;
 
 /// How many levels the parts of a script may have, its statements among them.
 const LEVELS: usize = 64;
 
-#[tactic(auto, unfolding(crate::specs::Statements::top))]
+#[tactic(auto, unfolding(script_readers::specs::Statements::top))]
 fn top(alloc: Global, tokens: &mut Cursor<'_>) -> Result<Items<Stmt>, Failed>
     ensures { Reads (top CHAINS LEVELS tokens.old) result tokens.new }
 {

@@ -1,11 +1,11 @@
 //! `return` and `throw` (ECMAScript, 14.10 and 14.14).
-ghost use Rattle.js_parser.specs.Reads.{Reads};
+ghost use Rattle.script_pieces.specs.Reads.{Reads};
 ghost use Rattle.js_parser.specs.Nests.{Deeper};
-ghost use Rattle.js_parser.specs.Statements as spec;
+ghost use Rattle.script_readers.specs.Statements as spec;
 
-use crate::cursor::{Cursor, Failed};
 use crate::level::{CHAINS, Form, Level, Part};
 use js_syntax::{Expr, ParseKind, Property, Stmt, Symbol};
+use script_pieces::{Cursor, Failed};
 use std::alloc::Global;
 
 impl<
@@ -14,7 +14,7 @@ impl<
     S: Fn(Global, &mut Cursor<'_>, usize, Form, bool, bool) -> Result<Stmt, Failed>,
 > Level<E, M, S> {
     /// A `return` behind its word: a line end ends it.
-    #[tactic(auto, unfolding(crate::specs::Statements::answer))]
+    #[tactic(auto, unfolding(script_readers::specs::Statements::answer))]
     pub fn answer(&self, tokens: &mut Cursor<'_>) -> Result<Stmt, Failed>
         requires { Deeper self.now.left (E.pre self.now.expr) (E.post self.now.expr) (M.pre self.now.member) (M.post self.now.member) (S.pre self.now.stmt) (S.post self.now.stmt) }
         ensures { Reads (spec.answer CHAINS self.now.left (spec.within CHAINS self.now.left) tokens.old) result tokens.new }
@@ -31,7 +31,7 @@ impl<
     }
 
     /// A `throw` behind its word, whose value begins on its line.
-    #[tactic(auto, unfolding(crate::specs::Statements::throw))]
+    #[tactic(auto, unfolding(script_readers::specs::Statements::throw))]
     pub fn throw(&self, tokens: &mut Cursor<'_>) -> Result<Stmt, Failed>
         requires { Deeper self.now.left (E.pre self.now.expr) (E.post self.now.expr) (M.pre self.now.member) (M.post self.now.member) (S.pre self.now.stmt) (S.post self.now.stmt) }
         ensures { Reads (spec.throw CHAINS self.now.left (spec.within CHAINS self.now.left) tokens.old) result tokens.new }

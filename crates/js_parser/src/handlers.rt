@@ -1,12 +1,11 @@
 //! `try` (ECMAScript, 14.15).
-ghost use Rattle.js_parser.specs.Reads.{Reads};
+ghost use Rattle.script_pieces.specs.Reads.{Reads};
 ghost use Rattle.js_parser.specs.Nests.{Deeper};
-ghost use Rattle.js_parser.specs.Statements as spec;
+ghost use Rattle.script_readers.specs.Statements as spec;
 
-use crate::cursor::{Cursor, Failed};
-use crate::functions::name;
 use crate::level::{CHAINS, Form, Level, Part};
 use js_syntax::{Catch, Expr, ParseKind, Property, Stmt, Symbol};
+use script_pieces::{Cursor, Failed, name};
 use sqlite_items::Boxed;
 use std::alloc::Global;
 
@@ -16,7 +15,7 @@ impl<
     S: Fn(Global, &mut Cursor<'_>, usize, Form, bool, bool) -> Result<Stmt, Failed>,
 > Level<E, M, S> {
     /// A `try` behind its `finally`.
-    #[tactic(auto, unfolding(crate::specs::Statements::finished))]
+    #[tactic(auto, unfolding(script_readers::specs::Statements::finished))]
     pub fn finished(
         &self,
         tokens: &mut Cursor<'_>,
@@ -34,7 +33,7 @@ impl<
     }
 
     /// A `try` behind the block of its `catch`.
-    #[tactic(auto, unfolding(crate::specs::Statements::handled))]
+    #[tactic(auto, unfolding(script_readers::specs::Statements::handled))]
     pub fn handled(
         &self,
         tokens: &mut Cursor<'_>,
@@ -53,7 +52,7 @@ impl<
     }
 
     /// A `try` behind its `catch`.
-    #[tactic(auto, unfolding(crate::specs::Statements::catch_))]
+    #[tactic(auto, unfolding(script_readers::specs::Statements::catch_))]
     pub fn catch(
         &self,
         tokens: &mut Cursor<'_>,
@@ -73,7 +72,7 @@ impl<
     }
 
     /// A `try` behind its block.
-    #[tactic(auto, unfolding(crate::specs::Statements::handlers))]
+    #[tactic(auto, unfolding(script_readers::specs::Statements::handlers))]
     pub fn handlers(
         &self,
         tokens: &mut Cursor<'_>,
@@ -94,7 +93,7 @@ impl<
     }
 
     /// A `try` behind its word.
-    #[tactic(auto, unfolding(crate::specs::Statements::try_))]
+    #[tactic(auto, unfolding(script_readers::specs::Statements::try_))]
     pub fn attempt(
         &self,
         tokens: &mut Cursor<'_>,

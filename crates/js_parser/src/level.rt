@@ -1,12 +1,12 @@
 //! The forms at one level. What stands one level deeper is read by function values, so that each form is
 //! proved by itself.
 ghost use Rattle.std.specs.Prelude.{◌≡◌, if◌then◌else◌};
-ghost use Rattle.js_parser.specs.Reads.{Reads};
+ghost use Rattle.script_pieces.specs.Reads.{Reads};
 ghost use Rattle.js_parser.specs.Nests.{Deeper};
-ghost use Rattle.js_parser.specs.Statements as spec;
+ghost use Rattle.script_readers.specs.Statements as spec;
 
-use crate::cursor::{Cursor, Failed};
 use js_syntax::{Expr, ParseKind, Property, Stmt};
+use script_pieces::{Cursor, Failed};
 use std::alloc::Global;
 
 /// How many operators a chain and how many suffixes an expression may have.

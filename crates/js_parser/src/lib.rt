@@ -3,16 +3,13 @@
 
 mod bodies;
 mod branches;
-mod cursor;
 mod declarations;
 mod entry;
 mod exits;
 mod functions;
 mod handlers;
-mod laws;
 mod level;
 mod loops;
-mod make;
 mod members;
 mod operators;
 mod parts;
@@ -20,8 +17,9 @@ mod series;
 mod statements;
 mod suffixes;
 mod updates;
-mod words;
 
 pub use entry::parse;
 pub use js_syntax::{ParseFault, ParseKind};
-pub use laws::{scripts_are_read_one_way, tokens_of_a_text_end_well, wider_limits_keep_scripts};
+pub use script_readers::{
+    scripts_are_read_one_way, tokens_of_a_text_end_well, wider_limits_keep_scripts,
+};

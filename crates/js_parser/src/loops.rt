@@ -1,46 +1,14 @@
 //! `for` (ECMAScript, 14.7.4 and 14.7.5).
-ghost use Rattle.std.specs.Prelude.{◌≡◌, IfOk};
-ghost use Rattle.js_parser.specs.Reads.{Reads};
+ghost use Rattle.script_pieces.specs.Reads.{Reads};
 ghost use Rattle.js_parser.specs.Nests.{Deeper};
 ghost use Rattle.js_parser.specs.Heads as heads;
-ghost use Rattle.js_parser.specs.Statements as spec;
+ghost use Rattle.script_readers.specs.Statements as spec;
 
-use crate::cursor::{Cursor, Failed};
-use crate::functions::name;
 use crate::level::{CHAINS, Form, Level, Part};
-use crate::make;
 use js_syntax::{Declaration, Expr, ForStart, ForTarget, Property, Stmt, Symbol};
+use script_pieces::{Cursor, Failed, Head, KeysHead, make, name, turned, turned_over};
 use sqlite_items::Items;
-use std::alloc::{AllocError, Global};
-
-/// The head of a `for`.
-#[derive(Drop)]
-pub struct Head {
-    start: ForStart,
-    test: Option<Expr>,
-    step: Option<Expr>,
-}
-
-/// The head of a `for` over keys.
-#[derive(Drop)]
-pub struct KeysHead {
-    target: ForTarget,
-    object: Expr,
-}
-
-fn turned(alloc: Global, head: Head, body: Stmt) -> Result<Stmt, AllocError>
-    ensures { IfOk result (λ x. x ≡ Stmt.For head.start head.test head.step body) }
-{
-    let Head { start, test, step } = head;
-    make::turns(alloc, start, test, step, body)
-}
-
-fn turned_over(alloc: Global, head: KeysHead, body: Stmt) -> Result<Stmt, AllocError>
-    ensures { IfOk result (λ x. x ≡ Stmt.ForIn head.target head.object body) }
-{
-    let KeysHead { target, object } = head;
-    make::over_keys(alloc, target, object, body)
-}
+use std::alloc::Global;
 
 impl<
     E: Fn(Global, &mut Cursor<'_>, usize, Part) -> Result<Expr, Failed>,
@@ -48,7 +16,7 @@ impl<
     S: Fn(Global, &mut Cursor<'_>, usize, Form, bool, bool) -> Result<Stmt, Failed>,
 > Level<E, M, S> {
     /// An expression and the token that closes it, or that token alone.
-    #[tactic(auto, unfolding(crate::specs::Statements::optional))]
+    #[tactic(auto, unfolding(script_readers::specs::Statements::optional))]
     pub fn optional(&self, tokens: &mut Cursor<'_>, close: Symbol) -> Result<Option<Expr>, Failed>
         requires { Deeper self.now.left (E.pre self.now.expr) (E.post self.now.expr) (M.pre self.now.member) (M.post self.now.member) (S.pre self.now.stmt) (S.post self.now.stmt) }
         ensures { Reads (spec.optional CHAINS self.now.left (spec.within CHAINS self.now.left) close tokens.old) result tokens.new }
@@ -91,7 +59,7 @@ impl<
     }
 
     /// A `for` behind the first semicolon of its head.
-    #[tactic(auto, unfolding(crate::specs::Statements::for_rest))]
+    #[tactic(auto, unfolding(script_readers::specs::Statements::for_rest))]
     pub fn for_rest(
         &self,
         tokens: &mut Cursor<'_>,
@@ -120,7 +88,7 @@ impl<
     }
 
     /// A `for` over keys behind its `in`.
-    #[tactic(auto, unfolding(crate::specs::Statements::over_keys))]
+    #[tactic(auto, unfolding(script_readers::specs::Statements::over_keys))]
     pub fn over_keys(
         &self,
         tokens: &mut Cursor<'_>,
@@ -136,7 +104,7 @@ impl<
     }
 
     /// A `for` behind the first declaration of its head.
-    #[tactic(auto, unfolding(crate::specs::Statements::for_variables))]
+    #[tactic(auto, unfolding(script_readers::specs::Statements::for_variables))]
     pub fn for_variables(
         &self,
         tokens: &mut Cursor<'_>,
@@ -154,7 +122,7 @@ impl<
     }
 
     /// A `for` behind the `var` of its head.
-    #[tactic(auto, unfolding(crate::specs::Statements::for_variable))]
+    #[tactic(auto, unfolding(script_readers::specs::Statements::for_variable))]
     pub fn for_variable(&self, tokens: &mut Cursor<'_>, in_function: bool) -> Result<Stmt, Failed>
         requires { Deeper self.now.left (E.pre self.now.expr) (E.post self.now.expr) (M.pre self.now.member) (M.post self.now.member) (S.pre self.now.stmt) (S.post self.now.stmt) }
         ensures { Reads (spec.for_variable CHAINS self.now.left (spec.within CHAINS self.now.left) in_function tokens.old) result tokens.new }
@@ -171,7 +139,7 @@ impl<
     }
 
     /// A `for` whose head begins with an expression.
-    #[tactic(auto, unfolding(crate::specs::Statements::for_expression))]
+    #[tactic(auto, unfolding(script_readers::specs::Statements::for_expression))]
     pub fn for_expression(&self, tokens: &mut Cursor<'_>, in_function: bool) -> Result<Stmt, Failed>
         requires { Deeper self.now.left (E.pre self.now.expr) (E.post self.now.expr) (M.pre self.now.member) (M.post self.now.member) (S.pre self.now.stmt) (S.post self.now.stmt) }
         ensures { Reads (spec.for_expression CHAINS self.now.left (spec.within CHAINS self.now.left) in_function tokens.old) result tokens.new }
@@ -185,7 +153,7 @@ impl<
     }
 
     /// A `for` behind the bracket of its head.
-    #[tactic(auto, unfolding(crate::specs::Statements::for_head))]
+    #[tactic(auto, unfolding(script_readers::specs::Statements::for_head))]
     pub fn for_head(&self, tokens: &mut Cursor<'_>, in_function: bool) -> Result<Stmt, Failed>
         requires { Deeper self.now.left (E.pre self.now.expr) (E.post self.now.expr) (M.pre self.now.member) (M.post self.now.member) (S.pre self.now.stmt) (S.post self.now.stmt) }
         ensures { Reads (spec.for_head CHAINS self.now.left (spec.within CHAINS self.now.left) in_function tokens.old) result tokens.new }
@@ -200,7 +168,7 @@ impl<
     }
 
     /// A `for` behind its word.
-    #[tactic(auto, unfolding(crate::specs::Statements::each_turn))]
+    #[tactic(auto, unfolding(script_readers::specs::Statements::each_turn))]
     pub fn each_turn(&self, tokens: &mut Cursor<'_>, in_function: bool) -> Result<Stmt, Failed>
         requires { Deeper self.now.left (E.pre self.now.expr) (E.post self.now.expr) (M.pre self.now.member) (M.post self.now.member) (S.pre self.now.stmt) (S.post self.now.stmt) }
         ensures { Reads (spec.each_turn CHAINS self.now.left (spec.within CHAINS self.now.left) in_function tokens.old) result tokens.new }

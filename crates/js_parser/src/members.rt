@@ -1,16 +1,13 @@
 //! Members of object literals.
-ghost use Rattle.js_parser.specs.Reads.{Reads};
+ghost use Rattle.script_pieces.specs.Reads.{Reads};
 ghost use Rattle.js_parser.specs.Nests.{Deeper};
-ghost use Rattle.js_parser.specs.Expressions as ex;
+ghost use Rattle.script_readers.specs.Expressions as ex;
 ghost use Rattle.js_parser.specs.Pieces as pieces;
-ghost use Rattle.js_parser.specs.Statements as spec;
+ghost use Rattle.script_readers.specs.Statements as spec;
 
-use crate::cursor::{Cursor, Failed};
-use crate::functions::name;
 use crate::level::{CHAINS, Form, Level, Part};
-use crate::make;
-use crate::words::Set;
 use js_syntax::{Expr, ParseKind, Property, Stmt, Symbol, Token};
+use script_pieces::{Cursor, Failed, Set, make, name};
 use std::alloc::Global;
 
 impl<
@@ -18,7 +15,7 @@ impl<
     M: Fn(Global, &mut Cursor<'_>, usize) -> Result<Property, Failed>,
     S: Fn(Global, &mut Cursor<'_>, usize, Form, bool, bool) -> Result<Stmt, Failed>,
 > Level<E, M, S> {
-    #[tactic(auto, unfolding(crate::specs::Expressions::valued))]
+    #[tactic(auto, unfolding(script_readers::specs::Expressions::valued))]
     fn valued(&self, tokens: &mut Cursor<'_>, key: &Token) -> Result<Property, Failed>
         requires { Deeper self.now.left (E.pre self.now.expr) (E.post self.now.expr) (M.pre self.now.member) (M.post self.now.member) (S.pre self.now.stmt) (S.post self.now.stmt) }
         ensures { Reads (ex.valued CHAINS self.now.left (spec.within CHAINS self.now.left) key.now.text tokens.old) result tokens.new }
@@ -28,7 +25,7 @@ impl<
         Ok(Property::Value(key, value))
     }
 
-    #[tactic(auto, unfolding(crate::specs::Expressions::getter))]
+    #[tactic(auto, unfolding(script_readers::specs::Expressions::getter))]
     fn getter(&self, tokens: &mut Cursor<'_>, key: &Token) -> Result<Property, Failed>
         requires { Deeper self.now.left (E.pre self.now.expr) (E.post self.now.expr) (M.pre self.now.member) (M.post self.now.member) (S.pre self.now.stmt) (S.post self.now.stmt) }
         ensures { Reads (ex.getter (spec.within CHAINS self.now.left) key.now.text tokens.old) result tokens.new }
@@ -40,7 +37,7 @@ impl<
         Ok(make::getter(self.alloc, key, body)?)
     }
 
-    #[tactic(auto, unfolding(crate::specs::Expressions::setter))]
+    #[tactic(auto, unfolding(script_readers::specs::Expressions::setter))]
     fn setter(&self, tokens: &mut Cursor<'_>, key: &Token) -> Result<Property, Failed>
         requires { Deeper self.now.left (E.pre self.now.expr) (E.post self.now.expr) (M.pre self.now.member) (M.post self.now.member) (S.pre self.now.stmt) (S.post self.now.stmt) }
         ensures { Reads (ex.setter (spec.within CHAINS self.now.left) key.now.text tokens.old) result tokens.new }
@@ -54,7 +51,7 @@ impl<
     }
 
     /// What stands behind a `get`, which is a key where a colon follows.
-    #[tactic(auto, using(crate::proofs::Begun::taken, crate::proofs::Begun::passed, crate::proofs::Begun::refused))]
+    #[tactic(auto, using(script_readers::proofs::Begun::taken, script_readers::proofs::Begun::passed, script_readers::proofs::Begun::refused))]
     fn after_get(&self, tokens: &mut Cursor<'_>, word: &Token) -> Result<Property, Failed>
         requires { Deeper self.now.left (E.pre self.now.expr) (E.post self.now.expr) (M.pre self.now.member) (M.post self.now.member) (S.pre self.now.stmt) (S.post self.now.stmt) }
         ensures { Reads (ex.after_get CHAINS self.now.left (spec.within CHAINS self.now.left) word.now.text tokens.old) result tokens.new }
@@ -69,7 +66,7 @@ impl<
     }
 
     /// What stands behind a `set`, which is a key where a colon follows.
-    #[tactic(auto, using(crate::proofs::Begun::taken, crate::proofs::Begun::passed, crate::proofs::Begun::refused))]
+    #[tactic(auto, using(script_readers::proofs::Begun::taken, script_readers::proofs::Begun::passed, script_readers::proofs::Begun::refused))]
     fn after_set(&self, tokens: &mut Cursor<'_>, word: &Token) -> Result<Property, Failed>
         requires { Deeper self.now.left (E.pre self.now.expr) (E.post self.now.expr) (M.pre self.now.member) (M.post self.now.member) (S.pre self.now.stmt) (S.post self.now.stmt) }
         ensures { Reads (ex.after_set CHAINS self.now.left (spec.within CHAINS self.now.left) word.now.text tokens.old) result tokens.new }
@@ -92,7 +89,7 @@ impl<
     }
 
     /// A member of an object literal.
-    #[tactic(auto, unfolding(crate::specs::Expressions::member))]
+    #[tactic(auto, unfolding(script_readers::specs::Expressions::member))]
     pub fn member(&self, tokens: &mut Cursor<'_>) -> Result<Property, Failed>
         requires { Deeper self.now.left (E.pre self.now.expr) (E.post self.now.expr) (M.pre self.now.member) (M.post self.now.member) (S.pre self.now.stmt) (S.post self.now.stmt) }
         ensures { Reads (ex.member CHAINS self.now.left (spec.within CHAINS self.now.left) tokens.old) result tokens.new }

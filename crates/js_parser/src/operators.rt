@@ -3,50 +3,19 @@ ghost use Rattle.std.specs.Prelude.{◌≡◌, None};
 ghost use Rattle.js_syntax.specs.Symbols.{among, next, sees};
 ghost use Rattle.js_syntax.specs.Words as words;
 ghost use Rattle.token_readers.specs.Readers.{chain};
-ghost use Rattle.js_parser.specs.Reads.{Begins, Reads, Takes};
+ghost use Rattle.script_pieces.specs.Reads.{Begins, Reads, Takes};
 ghost use Rattle.js_parser.specs.Nests.{Deeper};
-ghost use Rattle.js_parser.specs.Expressions as ex;
+ghost use Rattle.script_readers.specs.Expressions as ex;
 ghost use Rattle.js_parser.specs.Pieces as pieces;
-ghost use Rattle.js_parser.specs.Statements as spec;
+ghost use Rattle.script_readers.specs.Statements as spec;
 
-use crate::cursor::{Cursor, Failed};
 use crate::level::{CHAINS, Form, Level, Part};
-use crate::make;
-use crate::words::Set;
 use js_syntax::{Expr, ParseKind, Property, Stmt, Symbol, Token};
+use script_pieces::{Cursor, Failed, Set, begin_assign, eat_postfix, make};
 use std::alloc::Global;
 
 /// How many levels of left chains there are, strongest first.
 const LEVELS_OF_CHAINS: u8 = 6;
-
-/// Whether a `++` or `--` goes on with this expression here.
-pub fn sees_postfix(tokens: &Cursor<'_>, operand: &Expr) -> bool
-    ensures { result ≡ sees (words.is_postfix operand.now) (next tokens.now) }
-{
-    tokens.sees_any(Set::Updates) && tokens.is_on_line() && make::is_target(operand)
-}
-
-fn eat_postfix<'a>(tokens: &mut Cursor<'a>, operand: &Expr) -> Option<&'a Token>
-    ensures { Takes (words.is_postfix operand.now) tokens.old result tokens.new }
-{
-    if sees_postfix(tokens, operand) {
-        return tokens.skip();
-    }
-    None
-}
-
-fn begin_assign<'a>(
-    tokens: &mut Cursor<'a>,
-    left: usize,
-    target: &Expr,
-) -> Result<Option<&'a Token>, Failed>
-    ensures { Begins left (words.assigns target.now) tokens.old result tokens.new }
-{
-    if !make::is_target(target) {
-        return Ok(None);
-    }
-    tokens.begin_any(left, Set::Assignments)
-}
 
 impl<
     E: Fn(Global, &mut Cursor<'_>, usize, Part) -> Result<Expr, Failed>,
@@ -54,7 +23,7 @@ impl<
     S: Fn(Global, &mut Cursor<'_>, usize, Form, bool, bool) -> Result<Stmt, Failed>,
 > Level<E, M, S> {
     /// An expression with suffixes, and a `++` or `--` behind it.
-    #[tactic(auto, unfolding(crate::specs::Expressions::postfix))]
+    #[tactic(auto, unfolding(script_readers::specs::Expressions::postfix))]
     pub fn postfix(&self, tokens: &mut Cursor<'_>) -> Result<Expr, Failed>
         requires { Deeper self.now.left (E.pre self.now.expr) (E.post self.now.expr) (M.pre self.now.member) (M.post self.now.member) (S.pre self.now.stmt) (S.post self.now.stmt) }
         ensures { Reads (ex.postfix CHAINS self.now.left (spec.within CHAINS self.now.left) tokens.old) result tokens.new }
@@ -83,7 +52,7 @@ impl<
     }
 
     /// An operand with a `++` or `--` before it or behind it, or alone.
-    #[tactic(auto, using(crate::proofs::Begun::taken, crate::proofs::Begun::passed, crate::proofs::Begun::refused))]
+    #[tactic(auto, using(script_readers::proofs::Begun::taken, script_readers::proofs::Begun::passed, script_readers::proofs::Begun::refused))]
     fn updated(&self, tokens: &mut Cursor<'_>) -> Result<Expr, Failed>
         requires { Deeper self.now.left (E.pre self.now.expr) (E.post self.now.expr) (M.pre self.now.member) (M.post self.now.member) (S.pre self.now.stmt) (S.post self.now.stmt) }
         ensures { Reads (pieces.updated CHAINS self.now.left (spec.within CHAINS self.now.left) tokens.old) result tokens.new }
@@ -95,7 +64,7 @@ impl<
     }
 
     /// An operand, with the operators before it.
-    #[tactic(auto, unfolding(crate::specs::Expressions::unary), using(crate::proofs::Begun::taken, crate::proofs::Begun::passed, crate::proofs::Begun::refused))]
+    #[tactic(auto, unfolding(script_readers::specs::Expressions::unary), using(script_readers::proofs::Begun::taken, script_readers::proofs::Begun::passed, script_readers::proofs::Begun::refused))]
     pub fn unary(&self, tokens: &mut Cursor<'_>) -> Result<Expr, Failed>
         requires { Deeper self.now.left (E.pre self.now.expr) (E.post self.now.expr) (M.pre self.now.member) (M.post self.now.member) (S.pre self.now.stmt) (S.post self.now.stmt) }
         ensures { Reads (ex.unary CHAINS self.now.left (spec.within CHAINS self.now.left) tokens.old) result tokens.new }
@@ -108,7 +77,7 @@ impl<
 
     /// Operands with operators of so many levels between.
     #[cycle(binary)]
-    #[tactic(auto, unfolding(crate::specs::Expressions::binary, crate::specs::Expressions::chained))]
+    #[tactic(auto, unfolding(script_readers::specs::Expressions::binary, script_readers::specs::Expressions::chained))]
     fn binary(&self, tokens: &mut Cursor<'_>, in_is: bool, levels: u8) -> Result<Expr, Failed>
         requires { Deeper self.now.left (E.pre self.now.expr) (E.post self.now.expr) (M.pre self.now.member) (M.post self.now.member) (S.pre self.now.stmt) (S.post self.now.stmt) }
         ensures { Reads (ex.binary CHAINS self.now.left (spec.within CHAINS self.now.left) in_is levels tokens.old) result tokens.new }
@@ -147,7 +116,7 @@ impl<
         Ok(found)
     }
 
-    #[tactic(auto, unfolding(crate::specs::Expressions::otherwise_of))]
+    #[tactic(auto, unfolding(script_readers::specs::Expressions::otherwise_of))]
     fn otherwise_of(
         &self,
         tokens: &mut Cursor<'_>,
@@ -171,7 +140,7 @@ impl<
         Ok(then)
     }
 
-    #[tactic(auto, unfolding(crate::specs::Expressions::choices))]
+    #[tactic(auto, unfolding(script_readers::specs::Expressions::choices))]
     fn choices(&self, tokens: &mut Cursor<'_>, in_is: bool, test: Expr) -> Result<Expr, Failed>
         requires { Deeper self.now.left (E.pre self.now.expr) (E.post self.now.expr) (M.pre self.now.member) (M.post self.now.member) (S.pre self.now.stmt) (S.post self.now.stmt) }
         ensures { Reads (ex.choices (spec.within CHAINS self.now.left) in_is test tokens.old) result tokens.new }
@@ -180,7 +149,7 @@ impl<
         self.otherwise_of(tokens, in_is, test, then)
     }
 
-    #[tactic(auto, using(crate::proofs::Begun::taken, crate::proofs::Begun::passed, crate::proofs::Begun::refused))]
+    #[tactic(auto, using(script_readers::proofs::Begun::taken, script_readers::proofs::Begun::passed, script_readers::proofs::Begun::refused))]
     fn chosen(&self, tokens: &mut Cursor<'_>, in_is: bool, test: Expr) -> Result<Expr, Failed>
         requires { Deeper self.now.left (E.pre self.now.expr) (E.post self.now.expr) (M.pre self.now.member) (M.post self.now.member) (S.pre self.now.stmt) (S.post self.now.stmt) }
         ensures { Reads (pieces.chosen self.now.left (spec.within CHAINS self.now.left) in_is test tokens.old) result tokens.new }
@@ -192,7 +161,7 @@ impl<
     }
 
     /// A choice between two expressions, or one alone.
-    #[tactic(auto, unfolding(crate::specs::Expressions::conditional))]
+    #[tactic(auto, unfolding(script_readers::specs::Expressions::conditional))]
     fn conditional(&self, tokens: &mut Cursor<'_>, in_is: bool) -> Result<Expr, Failed>
         requires { Deeper self.now.left (E.pre self.now.expr) (E.post self.now.expr) (M.pre self.now.member) (M.post self.now.member) (S.pre self.now.stmt) (S.post self.now.stmt) }
         ensures { Reads (ex.conditional CHAINS self.now.left (spec.within CHAINS self.now.left) in_is tokens.old) result tokens.new }
@@ -215,7 +184,7 @@ impl<
         Ok(make::assignment(self.alloc, mark.symbol(), target, value)?)
     }
 
-    #[tactic(auto, using(crate::proofs::Begun::taken, crate::proofs::Begun::passed, crate::proofs::Begun::refused))]
+    #[tactic(auto, using(script_readers::proofs::Begun::taken, script_readers::proofs::Begun::passed, script_readers::proofs::Begun::refused))]
     fn set_to(&self, tokens: &mut Cursor<'_>, in_is: bool, target: Expr) -> Result<Expr, Failed>
         requires { Deeper self.now.left (E.pre self.now.expr) (E.post self.now.expr) (M.pre self.now.member) (M.post self.now.member) (S.pre self.now.stmt) (S.post self.now.stmt) }
         ensures { Reads (pieces.set_to self.now.left (spec.within CHAINS self.now.left) in_is target tokens.old) result tokens.new }
@@ -227,7 +196,7 @@ impl<
     }
 
     /// An expression.
-    #[tactic(auto, unfolding(crate::specs::Expressions::assign))]
+    #[tactic(auto, unfolding(script_readers::specs::Expressions::assign))]
     pub fn assign(&self, tokens: &mut Cursor<'_>, in_is: bool) -> Result<Expr, Failed>
         requires { Deeper self.now.left (E.pre self.now.expr) (E.post self.now.expr) (M.pre self.now.member) (M.post self.now.member) (S.pre self.now.stmt) (S.post self.now.stmt) }
         ensures { Reads (ex.assign CHAINS self.now.left (spec.within CHAINS self.now.left) in_is tokens.old) result tokens.new }

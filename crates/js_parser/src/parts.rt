@@ -1,15 +1,14 @@
 //! What stands one level deeper, down to the last level.
 ghost use Rattle.js_syntax.specs.Symbols.{next, sees, among};
 ghost use Rattle.std.specs.Prelude.{◌≡◌};
-ghost use Rattle.js_parser.specs.Reads.{Reads};
+ghost use Rattle.script_pieces.specs.Reads.{Reads};
 ghost use Rattle.js_parser.specs.Nests.{part_of, form_of};
 ghost use Rattle.js_parser.specs.Parts.{begins_part, begins_form};
-ghost use Rattle.js_parser.specs.Statements as spec;
+ghost use Rattle.script_readers.specs.Statements as spec;
 
-use crate::cursor::{Cursor, Failed};
 use crate::level::{CHAINS, Form, Level, Part, refuse_part};
-use crate::words::Set;
 use js_syntax::{Expr, Property, Stmt, Symbol};
+use script_pieces::{Cursor, Failed, Set};
 use std::alloc::Global;
 
 /// Whether such a part begins here.

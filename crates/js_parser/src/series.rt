@@ -2,14 +2,14 @@
 ghost use Rattle.std.specs.Prelude.{true};
 ghost use Rattle.js_syntax.specs.Symbols.{is};
 ghost use Rattle.token_readers.specs.Readers.{repeat};
-ghost use Rattle.js_parser.specs.Reads.{Reads};
+ghost use Rattle.script_pieces.specs.Reads.{Reads};
 ghost use Rattle.js_parser.specs.Nests.{Deeper};
-ghost use Rattle.js_parser.specs.Expressions as ex;
-ghost use Rattle.js_parser.specs.Statements as spec;
+ghost use Rattle.script_readers.specs.Expressions as ex;
+ghost use Rattle.script_readers.specs.Statements as spec;
 
-use crate::cursor::{Cursor, Failed};
 use crate::level::{CHAINS, Form, Level, Part};
 use js_syntax::{Expr, Property, Stmt, Symbol};
+use script_pieces::{Cursor, Failed};
 use sqlite_items::Items;
 use std::alloc::Global;
 
@@ -39,7 +39,7 @@ impl<
     }
 
     /// Expressions with commas between.
-    #[tactic(auto, unfolding(crate::specs::Expressions::separated))]
+    #[tactic(auto, unfolding(script_readers::specs::Expressions::separated))]
     pub fn exprs(&self, tokens: &mut Cursor<'_>) -> Result<Items<Expr>, Failed>
         requires { Deeper self.now.left (E.pre self.now.expr) (E.post self.now.expr) (M.pre self.now.member) (M.post self.now.member) (S.pre self.now.stmt) (S.post self.now.stmt) }
         ensures { Reads (ex.separated ((spec.within CHAINS self.now.left).expr true) tokens.old) result tokens.new }
@@ -50,7 +50,7 @@ impl<
         self.more_exprs(tokens, found)
     }
 
-    #[tactic(auto, unfolding(crate::specs::Expressions::entry))]
+    #[tactic(auto, unfolding(script_readers::specs::Expressions::entry))]
     fn element(&self, tokens: &mut Cursor<'_>) -> Result<Expr, Failed>
         requires { Deeper self.now.left (E.pre self.now.expr) (E.post self.now.expr) (M.pre self.now.member) (M.post self.now.member) (S.pre self.now.stmt) (S.post self.now.stmt) }
         ensures { Reads (ex.entry Symbol.CloseBracket ((spec.within CHAINS self.now.left).expr true) tokens.old) result tokens.new }
@@ -60,7 +60,7 @@ impl<
         Ok(item)
     }
 
-    #[tactic(auto, unfolding(crate::specs::Expressions::each, token_readers::specs::Readers::repeat, token_readers::specs::Readers::rounds))]
+    #[tactic(auto, unfolding(script_readers::specs::Expressions::each, token_readers::specs::Readers::repeat, token_readers::specs::Readers::rounds))]
     fn each_element(&self, tokens: &mut Cursor<'_>) -> Result<Items<Expr>, Failed>
         requires { Deeper self.now.left (E.pre self.now.expr) (E.post self.now.expr) (M.pre self.now.member) (M.post self.now.member) (S.pre self.now.stmt) (S.post self.now.stmt) }
         ensures { Reads (ex.each (is Symbol.CloseBracket) (ex.entry Symbol.CloseBracket ((spec.within CHAINS self.now.left).expr true)) tokens.old) result tokens.new }
@@ -77,7 +77,7 @@ impl<
     }
 
     /// The elements of an array, and the bracket behind them.
-    #[tactic(auto, unfolding(crate::specs::Expressions::listed))]
+    #[tactic(auto, unfolding(script_readers::specs::Expressions::listed))]
     pub fn elements(&self, tokens: &mut Cursor<'_>) -> Result<Items<Expr>, Failed>
         requires { Deeper self.now.left (E.pre self.now.expr) (E.post self.now.expr) (M.pre self.now.member) (M.post self.now.member) (S.pre self.now.stmt) (S.post self.now.stmt) }
         ensures { Reads (ex.listed Symbol.CloseBracket ((spec.within CHAINS self.now.left).expr true) tokens.old) result tokens.new }
@@ -87,7 +87,7 @@ impl<
         Ok(found)
     }
 
-    #[tactic(auto, unfolding(crate::specs::Expressions::entry))]
+    #[tactic(auto, unfolding(script_readers::specs::Expressions::entry))]
     fn next_member(&self, tokens: &mut Cursor<'_>) -> Result<Property, Failed>
         requires { Deeper self.now.left (E.pre self.now.expr) (E.post self.now.expr) (M.pre self.now.member) (M.post self.now.member) (S.pre self.now.stmt) (S.post self.now.stmt) }
         ensures { Reads (ex.entry Symbol.CloseBrace (spec.within CHAINS self.now.left).member tokens.old) result tokens.new }
@@ -97,7 +97,7 @@ impl<
         Ok(item)
     }
 
-    #[tactic(auto, unfolding(crate::specs::Expressions::each, token_readers::specs::Readers::repeat, token_readers::specs::Readers::rounds))]
+    #[tactic(auto, unfolding(script_readers::specs::Expressions::each, token_readers::specs::Readers::repeat, token_readers::specs::Readers::rounds))]
     fn each_member(&self, tokens: &mut Cursor<'_>) -> Result<Items<Property>, Failed>
         requires { Deeper self.now.left (E.pre self.now.expr) (E.post self.now.expr) (M.pre self.now.member) (M.post self.now.member) (S.pre self.now.stmt) (S.post self.now.stmt) }
         ensures { Reads (ex.each (is Symbol.CloseBrace) (ex.entry Symbol.CloseBrace (spec.within CHAINS self.now.left).member) tokens.old) result tokens.new }
@@ -114,7 +114,7 @@ impl<
     }
 
     /// The members of an object literal, and the brace behind them.
-    #[tactic(auto, unfolding(crate::specs::Expressions::listed))]
+    #[tactic(auto, unfolding(script_readers::specs::Expressions::listed))]
     pub fn members(&self, tokens: &mut Cursor<'_>) -> Result<Items<Property>, Failed>
         requires { Deeper self.now.left (E.pre self.now.expr) (E.post self.now.expr) (M.pre self.now.member) (M.post self.now.member) (S.pre self.now.stmt) (S.post self.now.stmt) }
         ensures { Reads (ex.listed Symbol.CloseBrace (spec.within CHAINS self.now.left).member tokens.old) result tokens.new }

@@ -1,13 +1,13 @@
 //! Statements by their first token (ECMAScript, 14).
-ghost use Rattle.js_parser.specs.Reads.{Reads};
+ghost use Rattle.script_pieces.specs.Reads.{Reads};
 ghost use Rattle.js_parser.specs.Nests.{Deeper};
 ghost use Rattle.js_syntax.specs.Symbols.{is};
 ghost use Rattle.token_readers.specs.Readers.{begin};
-ghost use Rattle.js_parser.specs.Statements as spec;
+ghost use Rattle.script_readers.specs.Statements as spec;
 
-use crate::cursor::{Cursor, Failed};
 use crate::level::{CHAINS, Form, Level, Part};
 use js_syntax::{Expr, ParseKind, Property, Stmt, Symbol};
+use script_pieces::{Cursor, Failed};
 use std::alloc::Global;
 
 impl<
@@ -16,7 +16,7 @@ impl<
     S: Fn(Global, &mut Cursor<'_>, usize, Form, bool, bool) -> Result<Stmt, Failed>,
 > Level<E, M, S> {
     /// An expression as a statement.
-    #[tactic(auto, unfolding(crate::specs::Statements::plain_statement))]
+    #[tactic(auto, unfolding(script_readers::specs::Statements::plain_statement))]
     pub fn plain_statement(&self, tokens: &mut Cursor<'_>) -> Result<Stmt, Failed>
         requires { Deeper self.now.left (E.pre self.now.expr) (E.post self.now.expr) (M.pre self.now.member) (M.post self.now.member) (S.pre self.now.stmt) (S.post self.now.stmt) }
         ensures { Reads (spec.plain_statement CHAINS self.now.left (spec.within CHAINS self.now.left) tokens.old) result tokens.new }
@@ -103,7 +103,7 @@ impl<
     }
 
     /// A statement of this level.
-    #[tactic(auto, unfolding(crate::specs::Statements::statement))]
+    #[tactic(auto, unfolding(script_readers::specs::Statements::statement))]
     pub fn statement(
         &self,
         tokens: &mut Cursor<'_>,

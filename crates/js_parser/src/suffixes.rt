@@ -2,18 +2,16 @@
 ghost use Rattle.std.specs.Prelude.{true};
 ghost use Rattle.js_syntax.specs.Symbols.{is, among};
 ghost use Rattle.token_readers.specs.Readers.{chain};
-ghost use Rattle.js_parser.specs.Reads.{Reads};
+ghost use Rattle.script_pieces.specs.Reads.{Reads};
 ghost use Rattle.js_parser.specs.Nests.{Deeper};
-ghost use Rattle.js_parser.specs.Sets.{symbols_of};
-ghost use Rattle.js_parser.specs.Expressions as ex;
+ghost use Rattle.script_pieces.specs.Sets.{symbols_of};
+ghost use Rattle.script_readers.specs.Expressions as ex;
 ghost use Rattle.js_parser.specs.Pieces as pieces;
-ghost use Rattle.js_parser.specs.Statements as spec;
+ghost use Rattle.script_readers.specs.Statements as spec;
 
-use crate::cursor::{Cursor, Failed};
 use crate::level::{CHAINS, Form, Level, Part, refuse_part};
-use crate::make;
-use crate::words::{Set, is};
 use js_syntax::{Expr, ParseKind, Property, Stmt, Symbol, Token};
+use script_pieces::{Cursor, Failed, Set, is, make, member_of};
 use sqlite_items::Items;
 use std::alloc::Global;
 
@@ -32,7 +30,7 @@ impl<
     }
 
     /// The arguments of a call, and the bracket behind them.
-    #[tactic(auto, unfolding(crate::specs::Expressions::arguments, token_readers::specs::Readers::above))]
+    #[tactic(auto, unfolding(script_readers::specs::Expressions::arguments, token_readers::specs::Readers::above))]
     pub fn arguments(&self, tokens: &mut Cursor<'_>) -> Result<Items<Expr>, Failed>
         requires { Deeper self.now.left (E.pre self.now.expr) (E.post self.now.expr) (M.pre self.now.member) (M.post self.now.member) (S.pre self.now.stmt) (S.post self.now.stmt) }
         ensures { Reads (ex.arguments self.now.left (spec.within CHAINS self.now.left) tokens.old) result tokens.new }
@@ -81,7 +79,7 @@ impl<
     }
 
     /// An array, an object or a function.
-    #[tactic(auto, using(crate::proofs::Begun::taken, crate::proofs::Begun::passed, crate::proofs::Begun::refused))]
+    #[tactic(auto, using(script_readers::proofs::Begun::taken, script_readers::proofs::Begun::passed, script_readers::proofs::Begun::refused))]
     fn literal(&self, tokens: &mut Cursor<'_>) -> Result<Expr, Failed>
         requires { Deeper self.now.left (E.pre self.now.expr) (E.post self.now.expr) (M.pre self.now.member) (M.post self.now.member) (S.pre self.now.stmt) (S.post self.now.stmt) }
         ensures { Reads (pieces.literal self.now.left (spec.within CHAINS self.now.left) tokens.old) result tokens.new }
@@ -99,7 +97,7 @@ impl<
     }
 
     /// An expression that is none of smaller ones with an operator or a suffix.
-    #[tactic(auto, unfolding(crate::specs::Expressions::primary), using(crate::proofs::Begun::taken, crate::proofs::Begun::passed, crate::proofs::Begun::refused))]
+    #[tactic(auto, unfolding(script_readers::specs::Expressions::primary), using(script_readers::proofs::Begun::taken, script_readers::proofs::Begun::passed, script_readers::proofs::Begun::refused))]
     pub fn primary(&self, tokens: &mut Cursor<'_>) -> Result<Expr, Failed>
         requires { Deeper self.now.left (E.pre self.now.expr) (E.post self.now.expr) (M.pre self.now.member) (M.post self.now.member) (S.pre self.now.stmt) (S.post self.now.stmt) }
         ensures { Reads (ex.primary self.now.left (spec.within CHAINS self.now.left) tokens.old) result tokens.new }
@@ -113,7 +111,7 @@ impl<
         self.literal(tokens)
     }
 
-    #[tactic(auto, unfolding(crate::specs::Expressions::new))]
+    #[tactic(auto, unfolding(script_readers::specs::Expressions::new))]
     fn new(&self, tokens: &mut Cursor<'_>) -> Result<Expr, Failed>
         requires { Deeper self.now.left (E.pre self.now.expr) (E.post self.now.expr) (M.pre self.now.member) (M.post self.now.member) (S.pre self.now.stmt) (S.post self.now.stmt) }
         ensures { Reads (ex.new self.now.left (spec.within CHAINS self.now.left) tokens.old) result tokens.new }
@@ -127,7 +125,7 @@ impl<
     }
 
     /// What suffixes follow.
-    #[tactic(auto, unfolding(crate::specs::Expressions::base), using(crate::proofs::Begun::taken, crate::proofs::Begun::passed, crate::proofs::Begun::refused))]
+    #[tactic(auto, unfolding(script_readers::specs::Expressions::base), using(script_readers::proofs::Begun::taken, script_readers::proofs::Begun::passed, script_readers::proofs::Begun::refused))]
     fn base(&self, tokens: &mut Cursor<'_>) -> Result<Expr, Failed>
         requires { Deeper self.now.left (E.pre self.now.expr) (E.post self.now.expr) (M.pre self.now.member) (M.post self.now.member) (S.pre self.now.stmt) (S.post self.now.stmt) }
         ensures { Reads (ex.base self.now.left (spec.within CHAINS self.now.left) tokens.old) result tokens.new }
@@ -138,7 +136,7 @@ impl<
         self.primary(tokens)
     }
 
-    #[tactic(auto, unfolding(crate::specs::Expressions::index_of))]
+    #[tactic(auto, unfolding(script_readers::specs::Expressions::index_of))]
     fn index_of(&self, tokens: &mut Cursor<'_>, object: Expr) -> Result<Expr, Failed>
         requires { Deeper self.now.left (E.pre self.now.expr) (E.post self.now.expr) (M.pre self.now.member) (M.post self.now.member) (S.pre self.now.stmt) (S.post self.now.stmt) }
         ensures { Reads (ex.index_of (spec.within CHAINS self.now.left) object tokens.old) result tokens.new }
@@ -147,7 +145,7 @@ impl<
         Ok(make::index(self.alloc, object, place)?)
     }
 
-    #[tactic(auto, unfolding(crate::specs::Expressions::call_of))]
+    #[tactic(auto, unfolding(script_readers::specs::Expressions::call_of))]
     fn call_of(&self, tokens: &mut Cursor<'_>, callee: Expr) -> Result<Expr, Failed>
         requires { Deeper self.now.left (E.pre self.now.expr) (E.post self.now.expr) (M.pre self.now.member) (M.post self.now.member) (S.pre self.now.stmt) (S.post self.now.stmt) }
         ensures { Reads (ex.call_of self.now.left (spec.within CHAINS self.now.left) callee tokens.old) result tokens.new }
@@ -157,7 +155,7 @@ impl<
     }
 
     /// The suffix that the mark begins.
-    #[tactic(auto, unfolding(crate::specs::Expressions::suffix))]
+    #[tactic(auto, unfolding(script_readers::specs::Expressions::suffix))]
     pub fn suffix(
         &self,
         tokens: &mut Cursor<'_>,
@@ -198,7 +196,7 @@ impl<
     }
 
     /// An expression with its members, elements and calls.
-    #[tactic(auto, unfolding(crate::specs::Expressions::suffixed))]
+    #[tactic(auto, unfolding(script_readers::specs::Expressions::suffixed))]
     pub fn suffixed(&self, tokens: &mut Cursor<'_>) -> Result<Expr, Failed>
         requires { Deeper self.now.left (E.pre self.now.expr) (E.post self.now.expr) (M.pre self.now.member) (M.post self.now.member) (S.pre self.now.stmt) (S.post self.now.stmt) }
         ensures { Reads (ex.suffixed CHAINS self.now.left (spec.within CHAINS self.now.left) tokens.old) result tokens.new }
@@ -208,25 +206,12 @@ impl<
     }
 
     /// What a `new` is applied to.
-    #[tactic(auto, unfolding(crate::specs::Expressions::callee))]
+    #[tactic(auto, unfolding(script_readers::specs::Expressions::callee))]
     pub fn callee(&self, tokens: &mut Cursor<'_>) -> Result<Expr, Failed>
         requires { Deeper self.now.left (E.pre self.now.expr) (E.post self.now.expr) (M.pre self.now.member) (M.post self.now.member) (S.pre self.now.stmt) (S.post self.now.stmt) }
         ensures { Reads (ex.callee CHAINS self.now.left (spec.within CHAINS self.now.left) tokens.old) result tokens.new }
     {
         let first = self.base(tokens)?;
         self.chain(tokens, Set::MemberSuffixes, first)
-    }
-}
-
-#[tactic(auto, unfolding(crate::specs::Expressions::member_of))]
-fn member_of(alloc: Global, tokens: &mut Cursor<'_>, object: Expr) -> Result<Expr, Failed>
-    ensures { Reads (ex.member_of object tokens.old) result tokens.new }
-{
-    match tokens.eat_any(Set::MemberNames) {
-        Some(token) => {
-            let name = token.text.share()?;
-            Ok(make::member(alloc, object, name)?)
-        }
-        None => Err(Failed::Fault(ParseKind::Unexpected)),
     }
 }

@@ -1,37 +1,23 @@
 //! The operand of a `++` or `--` before it.
-ghost use Rattle.js_parser.specs.Reads.{Reads};
+ghost use Rattle.script_pieces.specs.Reads.{Reads};
 ghost use Rattle.js_parser.specs.Nests.{Deeper};
-ghost use Rattle.js_parser.specs.Expressions as ex;
-ghost use Rattle.js_parser.specs.Statements as spec;
+ghost use Rattle.script_readers.specs.Expressions as ex;
+ghost use Rattle.script_readers.specs.Statements as spec;
 
-use crate::cursor::{Cursor, Failed};
 use crate::level::{CHAINS, Form, Level, Part};
-use crate::make;
-use crate::operators::sees_postfix;
-use crate::words::Set;
 use js_syntax::{Expr, ParseKind, Property, Stmt, Symbol};
+use script_pieces::{Cursor, Failed, Set, accept, make};
 use std::alloc::Global;
 
 /// How many of the suffixes may be calls.
 const CALLS: usize = CHAINS - 1;
-
-/// A name or a member, with no operator behind it.
-#[tactic(auto, unfolding(crate::specs::Expressions::accept))]
-fn accept(tokens: &Cursor<'_>, found: Expr) -> Result<Expr, Failed>
-    ensures { Reads (ex.accept found tokens.now) result tokens.now }
-{
-    if sees_postfix(tokens, &found) || !make::is_target(&found) {
-        return Err(Failed::Fault(ParseKind::Unexpected));
-    }
-    Ok(found)
-}
 
 impl<
     E: Fn(Global, &mut Cursor<'_>, usize, Part) -> Result<Expr, Failed>,
     M: Fn(Global, &mut Cursor<'_>, usize) -> Result<Property, Failed>,
     S: Fn(Global, &mut Cursor<'_>, usize, Form, bool, bool) -> Result<Stmt, Failed>,
 > Level<E, M, S> {
-    #[tactic(auto, unfolding(crate::specs::Expressions::new_applied))]
+    #[tactic(auto, unfolding(script_readers::specs::Expressions::new_applied))]
     fn new_applied(&self, tokens: &mut Cursor<'_>) -> Result<Expr, Failed>
         requires { Deeper self.now.left (E.pre self.now.expr) (E.post self.now.expr) (M.pre self.now.member) (M.post self.now.member) (S.pre self.now.stmt) (S.post self.now.stmt) }
         ensures { Reads (ex.new_applied self.now.left (spec.within CHAINS self.now.left) tokens.old) result tokens.new }
@@ -42,7 +28,7 @@ impl<
         Ok(make::new(self.alloc, callee, given)?)
     }
 
-    #[tactic(auto, unfolding(crate::specs::Expressions::target_base), using(crate::proofs::Begun::taken, crate::proofs::Begun::passed, crate::proofs::Begun::refused))]
+    #[tactic(auto, unfolding(script_readers::specs::Expressions::target_base), using(script_readers::proofs::Begun::taken, script_readers::proofs::Begun::passed, script_readers::proofs::Begun::refused))]
     fn target_base(&self, tokens: &mut Cursor<'_>) -> Result<Expr, Failed>
         requires { Deeper self.now.left (E.pre self.now.expr) (E.post self.now.expr) (M.pre self.now.member) (M.post self.now.member) (S.pre self.now.stmt) (S.post self.now.stmt) }
         ensures { Reads (ex.target_base self.now.left (spec.within CHAINS self.now.left) tokens.old) result tokens.new }
@@ -54,7 +40,7 @@ impl<
     }
 
     /// What a `new` is applied to here.
-    #[tactic(auto, unfolding(crate::specs::Expressions::applied))]
+    #[tactic(auto, unfolding(script_readers::specs::Expressions::applied))]
     pub fn applied(&self, tokens: &mut Cursor<'_>) -> Result<Expr, Failed>
         requires { Deeper self.now.left (E.pre self.now.expr) (E.post self.now.expr) (M.pre self.now.member) (M.post self.now.member) (S.pre self.now.stmt) (S.post self.now.stmt) }
         ensures { Reads (ex.applied CHAINS self.now.left (spec.within CHAINS self.now.left) tokens.old) result tokens.new }
@@ -63,7 +49,7 @@ impl<
         self.chain(tokens, Set::MemberSuffixes, first)
     }
 
-    #[tactic(auto, unfolding(crate::specs::Expressions::target_chain))]
+    #[tactic(auto, unfolding(script_readers::specs::Expressions::target_chain))]
     fn past_suffixes(&self, tokens: &mut Cursor<'_>, found: Expr) -> Result<Expr, Failed>
         requires { Deeper self.now.left (E.pre self.now.expr) (E.post self.now.expr) (M.pre self.now.member) (M.post self.now.member) (S.pre self.now.stmt) (S.post self.now.stmt) }
         ensures { Reads (ex.target_chain 0 self.now.left (spec.within CHAINS self.now.left) found tokens.old) result tokens.new }
@@ -75,7 +61,7 @@ impl<
     }
 
     /// In the last place stands no call.
-    #[tactic(auto, unfolding(crate::specs::Expressions::target_chain), using(token_readers::proofs::Loops::deny_passes, crate::proofs::Links::denied))]
+    #[tactic(auto, unfolding(script_readers::specs::Expressions::target_chain), using(token_readers::proofs::Loops::deny_passes, script_readers::proofs::Links::denied))]
     fn last_suffix(&self, tokens: &mut Cursor<'_>, found: Expr) -> Result<Expr, Failed>
         requires { Deeper self.now.left (E.pre self.now.expr) (E.post self.now.expr) (M.pre self.now.member) (M.post self.now.member) (S.pre self.now.stmt) (S.post self.now.stmt) }
         ensures { Reads (ex.target_chain 1 self.now.left (spec.within CHAINS self.now.left) found tokens.old) result tokens.new }
@@ -91,7 +77,7 @@ impl<
         accept(tokens, found)
     }
 
-    #[tactic(auto, unfolding(crate::specs::Expressions::target_chain))]
+    #[tactic(auto, unfolding(script_readers::specs::Expressions::target_chain))]
     fn target_suffixes(&self, tokens: &mut Cursor<'_>, mut found: Expr) -> Result<Expr, Failed>
         requires { Deeper self.now.left (E.pre self.now.expr) (E.post self.now.expr) (M.pre self.now.member) (M.post self.now.member) (S.pre self.now.stmt) (S.post self.now.stmt) }
         ensures { Reads (ex.target_chain CHAINS self.now.left (spec.within CHAINS self.now.left) found tokens.old) result tokens.new }
@@ -108,7 +94,7 @@ impl<
     }
 
     /// A name or a member that a `++` or `--` stands before.
-    #[tactic(auto, unfolding(crate::specs::Expressions::update_target))]
+    #[tactic(auto, unfolding(script_readers::specs::Expressions::update_target))]
     pub fn update_target(&self, tokens: &mut Cursor<'_>) -> Result<Expr, Failed>
         requires { Deeper self.now.left (E.pre self.now.expr) (E.post self.now.expr) (M.pre self.now.member) (M.post self.now.member) (S.pre self.now.stmt) (S.post self.now.stmt) }
         ensures { Reads (ex.update_target CHAINS self.now.left (spec.within CHAINS self.now.left) tokens.old) result tokens.new }

@@ -5,10 +5,11 @@ use Rattle.js_syntax.specs.declared.parse_fault.ParseFault.{ParseFault}
 use Rattle.js_syntax.specs.declared.tree.Stmt.{Stmt}
 use Rattle.js_syntax.specs.declared.tree.Script.{Script}
 use Rattle.js_syntax.specs.Symbols.{Tokens}
-use Rattle.js_parser.proofs.Tops.{script_sound, script_again}
-use Rattle.js_parser.proofs.Whole.{is_first}
-use Rattle.js_parser.proofs.OneFault.{script_has, one_fault}
-use Rattle.js_parser.proofs.Parsed.{parsed, failed}
+use Rattle.script_readers.proofs.Tops.{script_sound, script_again}
+use Rattle.script_readers.proofs.Whole.{is_first}
+use Rattle.script_readers.proofs.OneFault.{script_has, one_fault}
+use Rattle.script_readers.proofs.Parsed.{parsed}
+use Rattle.js_parser.proofs.Failing.{failed}
 use Rattle.js_parser.proofs.entry.parse.Goals as goal
 
 abbrev made : List Stmt → Script

@@ -2,11 +2,11 @@ use Rattle.std.proofs.Common.{◌≡◌, ap, ◌∙◌, refl, rules, arith, ℕ}
 use Rattle.js_syntax.specs.Symbols.{among}
 use Rattle.js_parser.specs.declared.level.Part.TheVariants as part
 use Rattle.js_parser.specs.declared.level.Form.TheVariants as form
-use Rattle.js_parser.specs.Expressions.{member_firsts}
+use Rattle.script_readers.specs.Expressions.{member_firsts}
 use Rattle.js_parser.specs.Nests.{part_of, form_of}
 use Rattle.js_parser.specs.Parts.{begins_part, begins_form}
-use Rattle.js_parser.specs.Statements.{within}
-use Rattle.js_parser.proofs.Turns.{deeper}
+use Rattle.script_readers.specs.Statements.{within}
+use Rattle.script_readers.proofs.Turns.{deeper}
 use Rattle.js_parser.proofs.Deep.{refused, no_part, no_form, reads_part, reads_form}
 use Rattle.js_parser.proofs.parts.+parts.Goals as goal
 

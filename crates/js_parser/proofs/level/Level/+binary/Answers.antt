@@ -3,10 +3,10 @@ use Rattle.std.proofs.lemmas.Grind.{common_steps}
 use Rattle.js_syntax.specs.Symbols.{among, next, symbol_of}
 use Rattle.js_syntax.specs.Words.{operators, operation}
 use Rattle.token_readers.specs.Readers.{chain, and_then, pure}
-use Rattle.js_parser.specs.Expressions.{operand_of, binary, chained}
-use Rattle.js_parser.specs.Statements.{within}
-use Rattle.js_parser.proofs.Turns as turns
-use Rattle.js_parser.proofs.Links as links
+use Rattle.script_readers.specs.Expressions.{operand_of, binary, chained}
+use Rattle.script_readers.specs.Statements.{within}
+use Rattle.script_readers.proofs.Turns as turns
+use Rattle.script_readers.proofs.Links as links
 use Rattle.js_parser.proofs.level.Level.+binary.Goals as goal
 
 pub binary-returns-in_err-first : goal.binary-returns-in_err-first

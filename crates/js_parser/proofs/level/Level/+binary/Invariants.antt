@@ -2,8 +2,8 @@ use Rattle.std.proofs.Common.{◌≡◌, ◌-◌, ◌+◌, ◌*◌, None}
 use Rattle.js_syntax.specs.Symbols.{among}
 use Rattle.js_syntax.specs.Words.{operators}
 use Rattle.token_readers.specs.Readers.{chain}
-use Rattle.js_parser.specs.Expressions.{operand_of, binary}
-use Rattle.js_parser.specs.Statements.{within}
+use Rattle.script_readers.specs.Expressions.{operand_of, binary}
+use Rattle.script_readers.specs.Statements.{within}
 use Rattle.js_parser.proofs.level.Level.+binary.Given as goal
 
 abbrev pub decreases-binary : goal.decreases-binary

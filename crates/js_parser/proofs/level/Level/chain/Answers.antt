@@ -2,17 +2,18 @@ use Rattle.std.proofs.Common.{rules, arith, ◌≡◌, ◌-◌, ◌+◌, sym, ap
 use Rattle.std.proofs.lemmas.Grind.{common_steps}
 use Rattle.js_syntax.specs.Symbols.{among}
 use Rattle.token_readers.specs.Readers.{chain, and_then}
-use Rattle.js_parser.specs.Sets.{symbols_of}
-use Rattle.js_parser.specs.Expressions.{denied, suffix}
-use Rattle.js_parser.specs.Statements.{within}
-use Rattle.js_parser.proofs.Turns as turns
-use Rattle.js_parser.proofs.Links as links
+use Rattle.script_pieces.specs.Sets.{symbols_of}
+use Rattle.script_readers.specs.Expressions.{denied, suffix}
+use Rattle.script_readers.specs.Statements.{within}
+use Rattle.script_readers.proofs.Turns as turns
+use Rattle.script_readers.proofs.Links as links
+use Rattle.js_parser.proofs.Denied.{reads_denied}
 use Rattle.js_parser.proofs.level.Level.chain.Goals as goal
 
 pub returns-in_err-undenied : goal.returns-in_err-undenied
 returns-in_err-undenied g c =
     let e = turns.one_more (λ n. chain n (denied c.args.self.now.left) (among (symbols_of c.args.of)) (suffix c.args.self.now.left (within 64 c.args.self.now.left)) c.loop-link.found c.loop-link.tokens) 64 c.loop-link._link c.loop-link-test.true c.loop-link.invariant in
-    let r = links.reads_denied c.args.self.now.left (64 - (c.loop-link._link + 1)) (among (symbols_of c.args.of)) (suffix c.args.self.now.left (within 64 c.args.self.now.left)) c.loop-link.found c.loop-link.tokens _ c.in_err-undenied.ensures in
+    let r = reads_denied c.args.self.now.left (64 - (c.loop-link._link + 1)) (among (symbols_of c.args.of)) (suffix c.args.self.now.left (within 64 c.args.self.now.left)) c.loop-link.found c.loop-link.tokens _ c.in_err-undenied.ensures in
     rw (sym e) (search rules)
 
 pub returns-in_err-found : goal.returns-in_err-found

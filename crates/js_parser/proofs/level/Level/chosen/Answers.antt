@@ -4,10 +4,10 @@ use Rattle.js_syntax.specs.declared.token.Token.{Token}
 use Rattle.js_syntax.specs.declared.symbol.Symbol.TheVariants as s
 use Rattle.js_syntax.specs.Symbols.{is}
 use Rattle.token_readers.specs.Readers.{pure}
-use Rattle.js_parser.specs.Reads.{Begins}
-use Rattle.js_parser.specs.Expressions.{choices}
-use Rattle.js_parser.specs.Statements.{within}
-use Rattle.js_parser.proofs.Begun as begun
+use Rattle.script_pieces.specs.Reads.{Begins}
+use Rattle.script_readers.specs.Expressions.{choices}
+use Rattle.script_readers.specs.Statements.{within}
+use Rattle.script_readers.proofs.Begun as begun
 use Rattle.js_parser.proofs.level.Level.chosen.Goals as goal
 
 pub returns-in-Some : goal.returns-in-Some

@@ -4,9 +4,9 @@ use Rattle.std.proofs.Common.{true}
 use Rattle.js_syntax.specs.declared.symbol.Symbol.TheVariants as s
 use Rattle.js_syntax.specs.Symbols.{is}
 use Rattle.token_readers.specs.Readers.{rounds}
-use Rattle.js_parser.specs.Expressions.{entry, one_more}
-use Rattle.js_parser.specs.Statements.{within}
-use Rattle.js_parser.proofs.Turns as turns
+use Rattle.script_readers.specs.Expressions.{entry, one_more}
+use Rattle.script_readers.specs.Statements.{within}
+use Rattle.script_readers.proofs.Turns as turns
 use Rattle.js_parser.proofs.level.Level.each_element.Goals as goal
 
 pub returns-in_err-item : goal.returns-in_err-item

@@ -1,9 +1,9 @@
 use Rattle.std.proofs.Common.{rules, arith}
 use Rattle.std.proofs.lemmas.Grind.{common_steps}
 use Rattle.token_readers.specs.Readers.{rounds}
-use Rattle.js_parser.specs.Expressions.{not_comma, next_item}
-use Rattle.js_parser.specs.Statements.{within, declared}
-use Rattle.js_parser.proofs.Turns as turns
+use Rattle.script_readers.specs.Expressions.{not_comma, next_item}
+use Rattle.script_readers.specs.Statements.{within, declared}
+use Rattle.script_readers.proofs.Turns as turns
 use Rattle.js_parser.proofs.level.Level.more_declared.Goals as goal
 
 pub returns-in_default : goal.returns-in_default

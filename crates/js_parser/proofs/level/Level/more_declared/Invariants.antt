@@ -1,7 +1,7 @@
 use Rattle.std.proofs.Common.{◌≡◌, ◌-◌}
 use Rattle.token_readers.specs.Readers.{rounds, repeat}
-use Rattle.js_parser.specs.Expressions.{not_comma, next_item}
-use Rattle.js_parser.specs.Statements.{within, declared}
+use Rattle.script_readers.specs.Expressions.{not_comma, next_item}
+use Rattle.script_readers.specs.Statements.{within, declared}
 use Rattle.js_parser.proofs.level.Level.more_declared.Given as goal
 
 abbrev pub invariant-loop-turn : goal.invariant-loop-turn

@@ -3,10 +3,10 @@ use denote.Bor.{Bor}
 use Rattle.js_syntax.specs.declared.token.Token.{Token}
 use Rattle.js_syntax.specs.Words.{assigns}
 use Rattle.token_readers.specs.Readers.{pure}
-use Rattle.js_parser.specs.Reads.{Begins}
+use Rattle.script_pieces.specs.Reads.{Begins}
 use Rattle.js_parser.specs.Pieces.{assigned}
-use Rattle.js_parser.specs.Statements.{within}
-use Rattle.js_parser.proofs.Begun as begun
+use Rattle.script_readers.specs.Statements.{within}
+use Rattle.script_readers.proofs.Begun as begun
 use Rattle.js_parser.proofs.level.Level.set_to.Goals as goal
 
 pub returns-in-Some : goal.returns-in-Some

@@ -1,9 +1,9 @@
 use Rattle.std.proofs.Common.{rules, arith, ◌≡◌, ◌-◌, ◌+◌, suc, sym, ap, ◌∙◌}
 use Rattle.std.proofs.lemmas.Grind.{common_steps}
 use Rattle.token_readers.specs.Readers.{and_then}
-use Rattle.js_parser.specs.Expressions.{target_chain, accept}
-use Rattle.js_parser.specs.Statements.{within}
-use Rattle.js_parser.proofs.TargetLinks as links
+use Rattle.script_readers.specs.Expressions.{target_chain, accept}
+use Rattle.script_readers.specs.Statements.{within}
+use Rattle.script_readers.proofs.TargetLinks as links
 use Rattle.js_parser.proofs.level.Level.target_suffixes.Goals as goal
 
 pub returns-in_err-found : goal.returns-in_err-found

@@ -1,0 +1,97 @@
+//! Names, and the parameters of functions (ECMAScript, 13.1 and 15.1).
+ghost use Rattle.std.specs.Prelude.{◌≡◌};
+ghost use Rattle.token_readers.specs.Readers.{repeat};
+ghost use Rattle.js_syntax.specs.Grammar as grammar;
+ghost use Rattle.script_readers.specs.Expressions as ex;
+ghost use Rattle.script_pieces.specs.Reads.{Reads};
+
+use crate::cursor::{Cursor, Failed};
+use crate::make;
+use crate::words::Set;
+use base_text::Text;
+use js_syntax::{Expr, ParseKind, Symbol};
+use sqlite_items::Items;
+use std::alloc::Global;
+
+/// A name.
+#[tactic(auto, unfolding(script_readers::specs::Expressions::name))]
+pub fn name(tokens: &mut Cursor<'_>) -> Result<Text, Failed>
+    ensures { Reads (ex.name tokens.old) result tokens.new }
+{
+    match tokens.eat_any(Set::Names) {
+        Some(token) => Ok(token.text.share()?),
+        None => Err(Failed::Fault(ParseKind::Unexpected)),
+    }
+}
+
+fn is_known(name: &Text, found: &[Text]) -> bool
+    ensures { result ≡ grammar.is_known name.now found.now }
+{
+    match found {
+        [] => false,
+        [first, others @ ..] => *name == *first || is_known(name, others),
+    }
+}
+
+#[tactic(auto, unfolding(script_readers::specs::Expressions::new_name))]
+fn new_name(tokens: &mut Cursor<'_>, mut found: Items<Text>) -> Result<Items<Text>, Failed>
+    ensures { Reads (ex.new_name found tokens.old) result tokens.new }
+{
+    match tokens.rest() {
+        [token, ..] if tokens.sees_any(Set::Names) && !is_known(&token.text, found.as_slice()) => {
+            tokens.skip();
+            found.push(token.text.share()?)?;
+            Ok(found)
+        }
+        _ => Err(Failed::Fault(ParseKind::Unexpected)),
+    }
+}
+
+#[tactic(auto, unfolding(token_readers::specs::Readers::repeat, token_readers::specs::Readers::rounds))]
+fn more_names(tokens: &mut Cursor<'_>, mut found: Items<Text>) -> Result<Items<Text>, Failed>
+    ensures { Reads (repeat ex.not_comma ex.next_name found tokens.old) result tokens.new }
+{
+    for _turn in 0..tokens.left() {
+        if let Some(_) = tokens.eat(Symbol::Comma) {
+            found = new_name(tokens, found)?;
+        } else {
+            return Ok(found);
+        }
+    }
+    Ok(found)
+}
+
+#[tactic(auto, unfolding(script_readers::specs::Expressions::some_names))]
+fn some_names(alloc: Global, tokens: &mut Cursor<'_>) -> Result<Items<Text>, Failed>
+    ensures { Reads (ex.some_names tokens.old) result tokens.new }
+{
+    let first = new_name(tokens, Items::new(alloc))?;
+    more_names(tokens, first)
+}
+
+/// The parameters of a function, and the bracket behind them.
+#[tactic(auto, unfolding(script_readers::specs::Expressions::parameters))]
+pub fn parameters(alloc: Global, tokens: &mut Cursor<'_>) -> Result<Items<Text>, Failed>
+    ensures { Reads (ex.parameters tokens.old) result tokens.new }
+{
+    if let Some(_) = tokens.eat(Symbol::Close) {
+        return Ok(Items::new(alloc));
+    }
+    let found = some_names(alloc, tokens)?;
+    tokens.expect(Symbol::Close)?;
+    Ok(found)
+}
+
+/// The member whose name stands behind a `.`.
+#[tactic(auto, unfolding(script_readers::specs::Expressions::member_of))]
+pub fn member_of(alloc: Global, tokens: &mut Cursor<'_>, object: Expr) -> Result<Expr, Failed>
+    ensures { Reads (ex.member_of object tokens.old) result tokens.new }
+{
+    match tokens.eat_any(Set::MemberNames) {
+        Some(token) => {
+            let name = token.text.share()?;
+            Ok(make::member(alloc, object, name)?)
+        }
+        None => Err(Failed::Fault(ParseKind::Unexpected)),
+    }
+}

@@ -1,0 +1,53 @@
+//! What can be assigned, and the marks that go on with it (ECMAScript, 13.4 and 13.15).
+ghost use Rattle.std.specs.Prelude.{◌≡◌};
+ghost use Rattle.js_syntax.specs.Symbols.{next, sees};
+ghost use Rattle.js_syntax.specs.Words as words;
+ghost use Rattle.script_readers.specs.Expressions as ex;
+ghost use Rattle.script_pieces.specs.Reads.{Begins, Reads, Takes};
+
+use crate::cursor::{Cursor, Failed};
+use crate::make;
+use crate::words::Set;
+use js_syntax::{Expr, ParseKind, Token};
+
+/// Whether a `++` or `--` goes on with this expression here.
+pub fn sees_postfix(tokens: &Cursor<'_>, operand: &Expr) -> bool
+    ensures { result ≡ sees (words.is_postfix operand.now) (next tokens.now) }
+{
+    tokens.sees_any(Set::Updates) && tokens.is_on_line() && make::is_target(operand)
+}
+
+/// Takes the `++` or `--` that goes on with this expression here.
+pub fn eat_postfix<'a>(tokens: &mut Cursor<'a>, operand: &Expr) -> Option<&'a Token>
+    ensures { Takes (words.is_postfix operand.now) tokens.old result tokens.new }
+{
+    if sees_postfix(tokens, operand) {
+        return tokens.skip();
+    }
+    None
+}
+
+/// Takes the `=` or its kin that goes on with this expression here, unless no level is left.
+pub fn begin_assign<'a>(
+    tokens: &mut Cursor<'a>,
+    left: usize,
+    target: &Expr,
+) -> Result<Option<&'a Token>, Failed>
+    ensures { Begins left (words.assigns target.now) tokens.old result tokens.new }
+{
+    if !make::is_target(target) {
+        return Ok(None);
+    }
+    tokens.begin_any(left, Set::Assignments)
+}
+
+/// A name or a member, with no operator behind it.
+#[tactic(auto, unfolding(script_readers::specs::Expressions::accept))]
+pub fn accept(tokens: &Cursor<'_>, found: Expr) -> Result<Expr, Failed>
+    ensures { Reads (ex.accept found tokens.now) result tokens.now }
+{
+    if sees_postfix(tokens, &found) || !make::is_target(&found) {
+        return Err(Failed::Fault(ParseKind::Unexpected));
+    }
+    Ok(found)
+}

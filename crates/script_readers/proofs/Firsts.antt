@@ -1,0 +1,142 @@
+-- What begins an expression and a statement: with a level left, such a token is taken, and another is refused as unexpected.
+use Rattle.std.proofs.Common.{◌≡◌, ◌==◌, ◌||◌, ◌&&◌, ℕ, zero, suc, ◌+◌, ◌<◌, ◌≤◌, Bool, true, false, not, cond, List, [], ◌∷◌, ◌++◌, length, Option, Some, None, Result, Ok, Err, refl, sym, ap, subst, ◌∙◌, append_assoc, arith}
+use Rattle.std.proofs.lemmas.List.{append-nil}
+use Rattle.js_syntax.specs.declared.token.Token.{Token}
+use Rattle.js_syntax.specs.declared.symbol.Symbol.{Symbol}
+use Rattle.js_syntax.specs.declared.symbol.Symbol.TheVariants as s
+use Rattle.js_syntax.specs.declared.parse_fault.ParseKind.{ParseKind}
+use Rattle.js_syntax.specs.declared.parse_fault.ParseKind.TheVariants.{Unexpected, TooDeep}
+use Rattle.js_syntax.specs.declared.tree.Expr.{Expr}
+use Rattle.js_syntax.specs.declared.tree.Expr.TheVariants as ex
+use Rattle.js_syntax.specs.declared.tree.Property.{Property}
+use Rattle.js_syntax.specs.declared.tree.Property.TheVariants as property
+use Rattle.js_syntax.specs.declared.tree.Function.{Function}
+use Rattle.js_syntax.specs.declared.tree.Declaration.{Declaration}
+use Rattle.js_syntax.specs.declared.tree.Catch.{Catch}
+use Rattle.js_syntax.specs.declared.tree.ForStart.{ForStart}
+use Rattle.js_syntax.specs.declared.tree.ForStart.TheVariants as start
+use Rattle.js_syntax.specs.declared.tree.ForTarget.{ForTarget}
+use Rattle.js_syntax.specs.declared.tree.ForTarget.TheVariants as target
+use Rattle.js_syntax.specs.declared.tree.Stmt.{Stmt}
+use Rattle.js_syntax.specs.declared.tree.Stmt.TheVariants as st
+use Rattle.js_syntax.specs.Symbols.{Tokens, next, is, among, sees, stops, symbol_of}
+use Rattle.js_syntax.specs.Spelling.{Spelling, Both, both, Each, Links, Listed, Separated}
+use Rattle.js_syntax.specs.Spelling as sp
+use Rattle.js_syntax.specs.Words.{names, member_names, keys, plain_keys, leaves, leaf_of, is_target, suffixes, member_suffixes, updates, update_of, is_postfix, prefixes, prefixed, operators, operation, assignments, assignment, assigns, closes_body, ends_line}
+use Rattle.js_syntax.specs.Grammar.{Parts, is_known, Names, Parameters, Body, Lambda, Named, Arguments, Primary, New, Base, Suffix, Suffixed, Callee, Unary, Operand, Chain, Binary, Conditional, Assign, Member, Ends, Stops, Block, Declared, Condition, Otherwise, Optional, Start, Target, Handlers, Statement, LEVELS_OF_CHAINS, not_first, parts_within}
+use Rattle.js_syntax.specs.Grammar as g
+use Rattle.token_readers.specs.Readers.{Outcome, Reader, and_then, ◌>>=◌, pure, refuse, look, on, expect, rounds, repeat, deny, chain, begin, not_taken, above}
+use Rattle.token_readers.proofs.Laws.{Sane, Opens}
+use Rattle.token_readers.proofs.Wider.{Wider}
+use Rattle.token_readers.proofs.Begin.{Takes}
+use Rattle.token_readers.proofs.Sets.{Follow, May, within, may_within, past, may_past, allows, Within, plain, is_plain, apart, subset, among_apart, among_subset, sees_apart, sees_subset, and_within, among_subset_one}
+use Rattle.token_readers.proofs.Spells.{Spell, respelled, Same, same, made, Nothing, On, took, passed, on_passes, Look, here, there, Above, positive, Rounds, stopped, round}
+use Rattle.token_readers.proofs.Good.{Good, Part, Laws, part_of, good_of, part_lifted, lifted, good_as, part_as, anywhere, good_pure, part_refuse, good_then, part_then, part_on, part_begin, good_option, good_begin_option, part_look, Taken, taken, good_expect, good_repeat, good_chain}
+use Rattle.token_readers.proofs.Loops.{denies, deny_passes, chain_ends, sane_denied, denied_at, deny_at, deny_nothing}
+use Rattle.token_readers.proofs.Begin.{Begins, begins_bind, begins_refuse}
+use Rattle.token_readers.proofs.Laws.{Any}
+use Rattle.token_readers.proofs.More.{good_under, opens_took, begin_passes, part_above, begins_with, begins_above, begins_alike}
+use Rattle.script_readers.specs.Expressions.{Inside, closed, not_comma, next_item, separated, each, listed, name, parameters, body, lambda, named, expr_firsts, base_firsts, primary_firsts, arguments, primary, new, base, member_of, index_of, call_of, suffix, denied, suffixed, callee, postfix, unary, operand_of, chained, binary, choices, conditional, assign, accept, new_applied, target_base, applied, target_chain, update_target, valued, getter, setter, member, member_firsts}
+use Rattle.script_readers.proofs.Samples.{close, open_token, close_bracket, open_brace, close_brace, semicolon, colon, dot, dollar, finally_token, is_close, is_open, is_close_bracket, is_open_brace, is_close_brace, is_semicolon, is_colon, is_dot, is_name, is_finally}
+use Rattle.script_readers.proofs.Lists.{closers, closer, ender, good_others, Closed, closed_by, good_closed, good_each, good_separated, good_listed, Name, is_a_name, good_name, good_parameters, close_opens}
+use Rattle.script_readers.proofs.Forms as forms
+use Rattle.script_readers.proofs.Forms.{Inner}
+use Rattle.token_readers.proofs.Laws.{sane_pure}
+use Rattle.token_readers.proofs.Begin.{begins_on}
+use Rattle.token_readers.proofs.More.{begins_up}
+use Rattle.script_readers.specs.Statements.{ended, halts, block_rest, variables, function_declared, branch, repetition, each_turn, answer, throw, try_, is_where, plain_statement, statement, begins_stmt}
+use Rattle.script_readers.proofs.Stmts as stmts
+
+module _ (p : Bool) (left left' : ℕ) (P : Parts) (Applied : Spelling Expr) (i i' : Inside) (inner : Inner p left left' P Applied i i') (chains chains' : ℕ) (lt : p ≡ true → chains + 2 ≤ chains') (up : positive left' ≡ true) where
+  -- a reader at the wider limits, where a level is left
+  wide : {A : Type 0} {n : Bool} {E F : Follow} {R : Spelling A} {r w : Reader A} → Good p (positive left) (positive left') n E F R r w → Sane (May F) w
+  wide good = (good.laws_w up).sane
+
+  always : {A : Type 0} {n : Bool} {E F : Follow} {R : Spelling A} {r w : Reader A} → Good p true true n E F R r w → Sane (May F) w
+  always good = (good.laws_w refl).sane
+
+  not_stop : (x : Symbol) (xs : List Symbol) → apart xs (x ∷ []) ≡ true → (o : Option Token) → sees (among xs) o ≡ true → stops (is x) o ≡ false
+  not_stop x xs h None e = absurd cc
+  not_stop x xs h (Some t) e = among_apart xs (x ∷ []) h t e
+
+  array : Good p true true true None closer (Both (Listed s.CloseBracket (P.expr true)) (λ all. Same (ex.Array all))) (listed s.CloseBracket (i.expr true) >>= λ all. pure (ex.Array all)) (listed s.CloseBracket (i'.expr true) >>= λ all. pure (ex.Array all))
+  array = good_then (good_listed {G = None} s.CloseBracket close_bracket is_close_bracket refl refl refl refl refl (inner.expr true) (λ a ts rest q. not_stop s.CloseBracket expr_firsts refl (next ts) (inner.expr_starts true a ts rest q))) (λ all. good_pure {E = None} (ex.Array all) refl) refl
+
+  object : Good p true true true None closer (Both (Listed s.CloseBrace P.member) (λ all. Same (ex.Object all))) (listed s.CloseBrace i.member >>= λ all. pure (ex.Object all)) (listed s.CloseBrace i'.member >>= λ all. pure (ex.Object all))
+  object = good_then (good_listed {G = None} s.CloseBrace close_brace is_close_brace refl refl refl refl refl inner.member (λ m ts rest q. not_stop s.CloseBrace keys refl (next ts) (inner.member_starts m ts rest q))) (λ all. good_pure {E = None} (ex.Object all) refl) refl
+
+  function : Good p true true true None closer (Both (Named P) (λ h. Same (ex.Function h))) (named i >>= λ h. pure (ex.Function h)) (named i' >>= λ h. pure (ex.Function h))
+  function = good_then (forms.good_named p left left' P Applied i i' inner {F = None}) (λ h. good_pure {E = None} (ex.Function h) refl) refl
+
+  primary_begins : Begins (among primary_firsts) (primary left' i')
+  unfolding primary
+  primary_begins =
+      begins_with closer leaves (s.Open ∷ s.OpenBracket ∷ s.OpenBrace ∷ s.Function ∷ []) (λ t. pure (leaf_of (symbol_of t) t.text)) _ (λ t h. sane_pure (May closer) (leaf_of (symbol_of t) t.text))
+      (begins_above closer left' up (s.Open ∷ []) (s.OpenBracket ∷ s.OpenBrace ∷ s.Function ∷ []) (λ t. closed s.Close (i'.expr true)) _ (λ t h. wide (good_closed {G = closer} s.Close close is_close refl refl (inner.expr_good true)))
+      (begins_with closer (s.OpenBracket ∷ []) (s.OpenBrace ∷ s.Function ∷ []) (λ t. listed s.CloseBracket (i'.expr true) >>= λ all. pure (ex.Array all)) _ (λ t h. always array)
+      (begins_with closer (s.OpenBrace ∷ []) (s.Function ∷ []) (λ t. listed s.CloseBrace i'.member >>= λ all. pure (ex.Object all)) _ (λ t h. always object)
+      (begins_above closer left' up (s.Function ∷ []) [] (λ t. named i' >>= λ h. pure (ex.Function h)) (refuse Unexpected) (λ t h. always function) begins_refuse))))
+
+  base_begins : Begins (among base_firsts) (base left' i')
+  unfolding base
+  base_begins = begins_above closer left' up (s.New ∷ []) primary_firsts (λ t. new left' i') (primary left' i') (λ t h. wide (forms.good_new p left left' P Applied i i' inner)) primary_begins
+
+  suffixed_begins : Begins (among base_firsts) (suffixed chains' left' i')
+  unfolding suffixed
+  suffixed_begins = begins_bind (May closer) (among base_firsts) (base left' i') (λ a. chain chains' (denied left') (among suffixes) (suffix left' i') a) base_begins
+      (λ a. always (forms.good_links p left left' P Applied i i' inner {E = closer} {F = closer} chains chains' (forms.fewer p left left' P Applied i i' inner chains chains' lt) suffixes refl refl refl refl refl a))
+
+  postfix_begins : Begins (among base_firsts) (postfix chains' left' i')
+  unfolding postfix
+  postfix_begins = begins_bind (May closer) (among base_firsts) (suffixed chains' left' i') (λ a. on (is_postfix a) (λ t. pure (ex.Postfix (update_of (symbol_of t)) a)) (pure a)) suffixed_begins
+      (λ a. always (option a)) where
+        option : (a : Expr) → Good p true true false closer closer (On (is_postfix a) (λ t. Same (ex.Postfix (update_of (symbol_of t)) a)) (Same a)) (on (is_postfix a) (λ t. pure (ex.Postfix (update_of (symbol_of t)) a)) (pure a)) (on (is_postfix a) (λ t. pure (ex.Postfix (update_of (symbol_of t)) a)) (pure a))
+        option a = good_option updates (and_within updates (λ t. not t.line_before && is_target a)) refl refl refl (λ t h. good_pure {E = None} (ex.Postfix (update_of (symbol_of t)) a) refl) a
+
+  unary_begins : Begins (among expr_firsts) (unary chains' left' i')
+  unfolding unary
+  unary_begins = begins_above closer left' up prefixes (s.Increment ∷ s.Decrement ∷ base_firsts) (λ t. i'.operand >>= λ a. pure (prefixed (symbol_of t) a)) _ (λ t h. wide (forms.good_prefix p left left' P Applied i i' inner chains chains' lt t))
+      (begins_above closer left' up updates base_firsts (λ t. i'.target >>= λ a. pure (ex.Prefix (update_of (symbol_of t)) a)) (postfix chains' left' i') (λ t h. wide (forms.good_update p left left' P Applied i i' inner chains chains' lt t)) postfix_begins)
+
+  binary_begins : (b : Bool) (n : ℕ) → Begins (among expr_firsts) (binary chains' left' i' b n)
+  unfolding binary chained
+  binary_begins b zero = unary_begins
+  binary_begins b (suc n) =
+      let fit = forms.operators_fit p left left' P Applied i i' inner chains chains' lt b n in
+      begins_bind (May closer) (among expr_firsts) (binary chains' left' i' b n) (λ a. chain chains' None (among (operators b n)) (operand_of (binary chains' left' i' b n)) a) (binary_begins b n)
+      (λ a. always (forms.good_operands p left left' P Applied i i' inner chains chains' lt (operators b n) fit.0 fit.1 (forms.good_binary p left left' P Applied i i' inner chains chains' lt b n) a))
+
+  conditional_begins : (b : Bool) → Begins (among expr_firsts) (conditional chains' left' i' b)
+  unfolding conditional
+  conditional_begins b = begins_bind (May closer) (among expr_firsts) (binary chains' left' i' b LEVELS_OF_CHAINS) (λ a. begin left' (is s.Question) (λ t. choices i' b a) (pure a)) (binary_begins b LEVELS_OF_CHAINS)
+      (λ a. always (forms.good_decided p left left' P Applied i i' inner chains chains' lt b a))
+
+  pub assign_begins : (b : Bool) → Begins (among expr_firsts) (assign chains' left' i' b)
+  unfolding assign
+  assign_begins b = begins_bind (May closer) (among expr_firsts) (conditional chains' left' i' b) (λ a. begin left' (assigns a) (λ t. i'.expr b >>= λ c. pure (assignment (symbol_of t) a c)) (pure a)) (conditional_begins b)
+      (λ a. always (forms.good_assigned p left left' P Applied i i' inner chains chains' lt b a))
+
+  -- ---- statements
+
+  plain_begins : Begins (among expr_firsts) (plain_statement chains' left' i')
+  unfolding plain_statement
+  plain_begins = begins_bind (May ender) (among expr_firsts) (assign chains' left' i' true) (λ a. ended (st.Expression a)) (assign_begins true) (λ a. always (stmts.good_ended p left left' P Applied i i' inner chains chains' lt (st.Expression a)))
+
+  halted : (x : Stmt) → Good p true true false None ender (Both {A = Unit {0}} (λ u ts rest. Stops ts rest) (λ u. Same x)) (halts >>= λ u. pure x) (halts >>= λ u. pure x)
+  halted x = good_then (stmts.good_halts p left left' P Applied i i' inner chains chains' lt) (λ u. good_pure {E = ender} {F = ender} x refl) refl
+
+  pub statement_begins : (f l : Bool) → Begins (begins_stmt f l) (statement chains' left' i' f l)
+  unfolding statement
+  statement_begins f l =
+      begins_on (May ender) (is s.Semicolon) _ (λ t. pure st.Empty) _ (λ t h. sane_pure (May ender) st.Empty)
+      (begins_on (May ender) (is s.OpenBrace) _ (λ t. block_rest i' f l) _ (λ t h. always (stmts.good_block_rest p left left' P Applied i i' inner chains chains' lt {F = ender} f l))
+      (begins_on (May ender) (is s.Var) _ (λ t. variables chains' left' i') _ (λ t h. always (stmts.good_variables p left left' P Applied i i' inner chains chains' lt))
+      (begins_up ender left' up (is s.Function) _ (λ t. function_declared i') _ (λ t h. wide (stmts.good_function p left left' P Applied i i' inner chains chains' lt {F = ender}))
+      (begins_up ender left' up (is s.If) _ (λ t. branch chains' left' i' f l) _ (λ t h. wide (stmts.good_branch p left left' P Applied i i' inner chains chains' lt f l))
+      (begins_up ender left' up (is s.While) _ (λ t. repetition chains' left' i' f) _ (λ t h. wide (stmts.good_repetition p left left' P Applied i i' inner chains chains' lt f))
+      (begins_up ender left' up (is s.For) _ (λ t. each_turn chains' left' i' f) _ (λ t h. wide (stmts.good_loop p left left' P Applied i i' inner chains chains' lt f))
+      (begins_on (May ender) (is_where s.Break l) _ (λ t. halts >>= λ u. pure st.Break) _ (λ t h. always (halted st.Break))
+      (begins_on (May ender) (is_where s.Continue l) _ (λ t. halts >>= λ u. pure st.Continue) _ (λ t h. always (halted st.Continue))
+      (begins_on (May ender) (is_where s.Return f) _ (λ t. answer chains' left' i') _ (λ t h. always (stmts.good_answer p left left' P Applied i i' inner chains chains' lt))
+      (begins_on (May ender) (is s.Throw) _ (λ t. throw chains' left' i') _ (λ t h. always (stmts.good_throw p left left' P Applied i i' inner chains chains' lt))
+      (begins_up ender left' up (is s.Try) (among expr_firsts) (λ t. try_ i' f l) (plain_statement chains' left' i') (λ t h. wide (stmts.good_try p left left' P Applied i i' inner chains chains' lt f l)) plain_begins)))))))))))

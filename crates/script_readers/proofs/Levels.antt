@@ -1,0 +1,209 @@
+-- Each level has its laws where the level below has them.
+use Rattle.std.proofs.Common.{◌≡◌, ◌==◌, ◌||◌, ◌&&◌, ℕ, zero, suc, ◌+◌, ◌<◌, ◌≤◌, Bool, true, false, not, cond, List, [], ◌∷◌, ◌++◌, length, Option, Some, None, Result, Ok, Err, refl, sym, ap, subst, ◌∙◌, append_assoc, arith}
+use Rattle.std.proofs.lemmas.List.{append-nil}
+use Rattle.js_syntax.specs.declared.token.Token.{Token}
+use Rattle.js_syntax.specs.declared.symbol.Symbol.{Symbol}
+use Rattle.js_syntax.specs.declared.symbol.Symbol.TheVariants as s
+use Rattle.js_syntax.specs.declared.parse_fault.ParseKind.{ParseKind}
+use Rattle.js_syntax.specs.declared.parse_fault.ParseKind.TheVariants.{Unexpected, TooDeep}
+use Rattle.js_syntax.specs.declared.tree.Expr.{Expr}
+use Rattle.js_syntax.specs.declared.tree.Expr.TheVariants as ex
+use Rattle.js_syntax.specs.declared.tree.Property.{Property}
+use Rattle.js_syntax.specs.declared.tree.Property.TheVariants as property
+use Rattle.js_syntax.specs.declared.tree.Function.{Function}
+use Rattle.js_syntax.specs.declared.tree.Declaration.{Declaration}
+use Rattle.js_syntax.specs.declared.tree.Catch.{Catch}
+use Rattle.js_syntax.specs.declared.tree.ForStart.{ForStart}
+use Rattle.js_syntax.specs.declared.tree.ForStart.TheVariants as start
+use Rattle.js_syntax.specs.declared.tree.ForTarget.{ForTarget}
+use Rattle.js_syntax.specs.declared.tree.ForTarget.TheVariants as target
+use Rattle.js_syntax.specs.declared.tree.Stmt.{Stmt}
+use Rattle.js_syntax.specs.declared.tree.Stmt.TheVariants as st
+use Rattle.js_syntax.specs.Symbols.{Tokens, next, is, among, sees, stops, symbol_of}
+use Rattle.js_syntax.specs.Spelling.{Spelling, Both, both, Each, Links, Listed, Separated}
+use Rattle.js_syntax.specs.Spelling as sp
+use Rattle.js_syntax.specs.Words.{names, member_names, keys, plain_keys, leaves, leaf_of, is_target, suffixes, member_suffixes, updates, update_of, is_postfix, prefixes, prefixed, operators, operation, assignments, assignment, assigns, closes_body, ends_line}
+use Rattle.js_syntax.specs.Grammar.{Parts, is_known, Names, Parameters, Body, Lambda, Named, Arguments, Primary, New, Base, Suffix, Suffixed, Callee, Unary, Operand, Chain, Binary, Conditional, Assign, Member, Ends, Stops, Block, Declared, Condition, Otherwise, Optional, Start, Target, Handlers, Statement, LEVELS_OF_CHAINS, not_first, parts_within}
+use Rattle.js_syntax.specs.Grammar as g
+use Rattle.token_readers.specs.Readers.{Outcome, Reader, and_then, ◌>>=◌, pure, refuse, look, on, expect, rounds, repeat, deny, chain, begin, not_taken, above}
+use Rattle.token_readers.proofs.Laws.{Sane, Opens}
+use Rattle.token_readers.proofs.Wider.{Wider}
+use Rattle.token_readers.proofs.Begin.{Takes}
+use Rattle.token_readers.proofs.Sets.{Follow, May, within, may_within, past, may_past, allows, Within, plain, is_plain, apart, subset, among_apart, among_subset, sees_apart, sees_subset, and_within, among_subset_one}
+use Rattle.token_readers.proofs.Spells.{Spell, respelled, Same, same, made, Nothing, On, took, passed, on_passes, Look, here, there, Above, positive, Rounds, stopped, round}
+use Rattle.token_readers.proofs.Good.{Good, Part, Laws, part_of, good_of, part_lifted, lifted, good_as, part_as, anywhere, good_pure, part_refuse, good_then, part_then, part_on, part_begin, good_option, good_begin_option, part_look, Taken, taken, good_expect, good_repeat, good_chain}
+use Rattle.token_readers.proofs.Loops.{denies, deny_passes, chain_ends, sane_denied, denied_at, deny_at, deny_nothing}
+use Rattle.token_readers.proofs.Begin.{Begins, begins_bind, begins_refuse}
+use Rattle.token_readers.proofs.Laws.{Any}
+use Rattle.token_readers.proofs.More.{good_under, opens_took, begin_passes, part_above, begins_with, begins_above, begins_alike}
+use Rattle.script_readers.specs.Expressions.{Inside, closed, not_comma, next_item, separated, each, listed, name, parameters, body, lambda, named, expr_firsts, base_firsts, primary_firsts, arguments, primary, new, base, member_of, index_of, call_of, suffix, denied, suffixed, callee, postfix, unary, operand_of, chained, binary, choices, conditional, assign, accept, new_applied, target_base, applied, target_chain, update_target, valued, getter, setter, member, member_firsts}
+use Rattle.script_readers.proofs.Samples.{close, open_token, close_bracket, open_brace, close_brace, semicolon, colon, dot, dollar, finally_token, is_close, is_open, is_close_bracket, is_open_brace, is_close_brace, is_semicolon, is_colon, is_dot, is_name, is_finally}
+use Rattle.script_readers.proofs.Lists.{closers, closer, ender, good_others, Closed, closed_by, good_closed, good_each, good_separated, good_listed, Name, is_a_name, good_name, good_parameters, close_opens}
+use Rattle.script_readers.proofs.Forms as forms
+use Rattle.script_readers.proofs.Forms.{Inner}
+use Rattle.token_readers.proofs.Begin.{sane_not_taken, wider_not_taken}
+use Rattle.token_readers.proofs.More.{takes_not_taken}
+use Rattle.token_readers.proofs.Spells.{spell_not_taken}
+use Rattle.js_syntax.specs.Grammar.{no_parts}
+use Rattle.script_readers.specs.Statements.{statement, block, begins_stmt, within as levels_within}
+use Rattle.script_readers.proofs.Targets.{AppliedOf}
+use Rattle.script_readers.proofs.UpdateTargets as updates
+use Rattle.script_readers.proofs.ObjectMembers as members
+use Rattle.script_readers.proofs.Stmts as stmts
+use Rattle.script_readers.proofs.Firsts as firsts
+
+-- one level more
+abbrev pub more_parts : ℕ → Parts → Parts
+more_parts chains P = record { expr = Assign chains P; operand = Unary chains P; callee = Callee chains P; member = Member chains P; stmt = Statement chains P; block = Block P; deeper = Unit {0} }
+
+abbrev pub more_inside : ℕ → ℕ → Inside → Inside
+more_inside chains left i = record {
+  expr = assign chains left i;
+  operand = unary chains left i;
+  target = update_target chains left i;
+  callee = callee chains left i;
+  applied = applied chains left i;
+  member = member chains left i;
+  stmt = statement chains left i;
+  block = block i;
+}
+
+pub next_level : (p : Bool) (left left' : ℕ) (P : Parts) (Applied : Spelling Expr) (i i' : Inside) → Inner p left left' P Applied i i' → (chains chains' : ℕ) → 1 ≤ chains → 1 ≤ chains' → (p ≡ true → chains + 2 ≤ chains')
+    → Inner p (suc left) (suc left') (more_parts chains P) (AppliedOf chains left P Applied) (more_inside chains left i) (more_inside chains' left' i')
+next_level p left left' P Applied i i' inner chains chains' some some' lt = record {
+  grows = λ e. refl;
+  expr = λ b. part_of (forms.good_assign p left left' P Applied i i' inner chains chains' lt b);
+  expr_good = λ b. forms.good_assign p left left' P Applied i i' inner chains chains' lt b;
+  expr_starts = λ b a ts rest q. forms.assign_starts p left left' P Applied i i' inner chains chains' lt b a ts rest q;
+  expr_begins = λ e b. firsts.assign_begins p left left' P Applied i i' inner chains chains' lt (inner.grows e) b;
+  operand = forms.good_unary p left left' P Applied i i' inner chains chains' lt;
+  target = updates.good_target p left left' P Applied i i' inner chains chains' lt some some';
+  callee = forms.good_callee p left left' P Applied i i' inner chains chains' lt;
+  applied = updates.good_applied p left left' P Applied i i' inner chains chains' lt;
+  applied_is = λ a ts rest q. updates.applied_is p left left' P Applied i i' inner chains chains' lt a ts rest q;
+  is_applied = λ a ts o rest q h. updates.is_applied p left left' P Applied i i' inner chains chains' lt a ts o rest q h;
+  callee_ends = λ a ts rest q. updates.callee_ends p left left' P Applied i i' inner chains chains' lt a ts rest q;
+  member = members.part_member p left left' P Applied i i' inner chains chains' lt;
+  member_starts = λ m ts rest q. members.member_starts p left left' P Applied i i' inner chains chains' lt m ts rest q;
+  stmt = λ f l. part_of (stmts.good_statement p left left' P Applied i i' inner chains chains' lt f l);
+  stmt_good = λ f l. stmts.good_statement p left left' P Applied i i' inner chains chains' lt f l;
+  stmt_starts = λ f l x ts rest q. stmts.statement_starts p left left' P Applied i i' inner chains chains' lt f l x ts rest q;
+  block = λ f l. stmts.good_block p left left' P Applied i i' inner chains chains' lt f l;
+  deeper = λ e. tt;
+  is_deeper = λ d. refl;
+  some_expr = λ b a ts rest q. refl;
+  some_operand = λ a ts rest q. refl;
+  some_callee = λ a ts rest q. refl;
+  some_stmt = λ f l x ts rest q. refl;
+  some_block = λ f l x ts rest q. refl;
+}
+
+-- ---- past the last level
+
+none_part : {A : Type 0} {p : Bool} {F : Follow} (q : Token → Bool) (w : Reader A) → Sane (May F) w → Takes w → (p ≡ true → Begins q w) → Part p true true true F Nothing (not_taken q) w
+none_part {F = F} q w sane takes begins = record { sane = λ e. sane_not_taken (May F) q; sane_w = λ e. sane; takes = λ e h. takes_not_taken q; takes_w = λ e h. takes; wider = λ e h k. wider_not_taken q w (begins e); spell = λ e. spell_not_taken q }
+
+none_good : {A : Type 0} {p o' n : Bool} {E F : Follow} {R : Spelling A} (r w : Reader A) → (o' ≡ true → Laws n E F w) → Good p false o' n E F R r w
+none_good r w laws = record { laws = λ e. absurd cc; laws_w = laws; wider = λ e h k. absurd cc; spell = λ e. absurd cc }
+
+abbrev NoApplied : Spelling Expr
+NoApplied a ts rest = ⊥
+
+abbrev no_inside : Inside
+no_inside = record {
+  expr = λ in_is. not_taken (among expr_firsts);
+  operand = not_taken (among expr_firsts);
+  target = not_taken (among base_firsts);
+  callee = not_taken (among base_firsts);
+  applied = not_taken (among base_firsts);
+  member = not_taken (among member_firsts);
+  stmt = λ f l. not_taken (begins_stmt f l);
+  block = λ f l. not_taken (is s.OpenBrace);
+}
+
+no_level : Inner false zero zero no_parts NoApplied no_inside no_inside
+no_level = record {
+  grows = λ e. absurd cc;
+  expr = λ b. none_part (among expr_firsts) (not_taken (among expr_firsts)) (sane_not_taken (May closer) (among expr_firsts)) (takes_not_taken (among expr_firsts)) (λ e. absurd cc);
+  expr_good = λ b. none_good _ _ (λ e. absurd cc);
+  expr_starts = λ b a ts rest q. absurd q;
+  expr_begins = λ e. absurd cc;
+  operand = none_good _ _ (λ e. absurd cc);
+  target = none_good _ _ (λ e. absurd cc);
+  callee = none_good _ _ (λ e. absurd cc);
+  applied = none_good _ _ (λ e. absurd cc);
+  applied_is = λ a ts rest q. absurd q;
+  is_applied = λ a ts o rest q h. absurd q;
+  callee_ends = λ a ts rest q. absurd q;
+  member = none_part (among member_firsts) (not_taken (among member_firsts)) (sane_not_taken (May closer) (among member_firsts)) (takes_not_taken (among member_firsts)) (λ e. absurd cc);
+  member_starts = λ m ts rest q. absurd q;
+  stmt = λ f l. none_part (begins_stmt f l) (not_taken (begins_stmt f l)) (sane_not_taken (May ender) (begins_stmt f l)) (takes_not_taken (begins_stmt f l)) (λ e. absurd cc);
+  stmt_good = λ f l. none_good _ _ (λ e. absurd cc);
+  stmt_starts = λ f l x ts rest q. absurd q;
+  block = λ f l. none_good _ _ (λ e. absurd cc);
+  deeper = λ e. absurd cc;
+  is_deeper = λ d. absurd d;
+  some_expr = λ b a ts rest q. absurd q;
+  some_operand = λ a ts rest q. absurd q;
+  some_callee = λ a ts rest q. absurd q;
+  some_stmt = λ f l x ts rest q. absurd q;
+  some_block = λ f l x ts rest q. absurd q;
+}
+
+-- nothing beside a level whose readers begin as they should
+beside_none : (left' : ℕ) (P : Parts) (Applied : Spelling Expr) (w : Inside) → positive left' ≡ true → Inner false left' left' P Applied w w → ((b : Bool) → Begins (among expr_firsts) (w.expr b)) → Begins (among member_firsts) w.member → ((f l : Bool) → Begins (begins_stmt f l) (w.stmt f l))
+    → Inner true zero left' no_parts NoApplied no_inside w
+beside_none left' P Applied w up whole expr member stmt = record {
+  grows = λ e. up;
+  expr = λ b. none_part (among expr_firsts) (w.expr b) ((whole.expr b).sane refl) ((whole.expr b).takes refl refl) (λ e. expr b);
+  expr_good = λ b. none_good _ _ (λ e. (whole.expr_good b).laws e);
+  expr_starts = λ b a ts rest q. absurd q;
+  expr_begins = λ e b. expr b;
+  operand = none_good _ _ (λ e. whole.operand.laws e);
+  target = none_good _ _ (λ e. whole.target.laws e);
+  callee = none_good _ _ (λ e. whole.callee.laws e);
+  applied = none_good _ _ (λ e. whole.applied.laws e);
+  applied_is = λ a ts rest q. absurd q;
+  is_applied = λ a ts o rest q h. absurd q;
+  callee_ends = λ a ts rest q. absurd q;
+  member = none_part (among member_firsts) w.member (whole.member.sane refl) (whole.member.takes refl refl) (λ e. member);
+  member_starts = λ m ts rest q. absurd q;
+  stmt = λ f l. none_part (begins_stmt f l) (w.stmt f l) ((whole.stmt f l).sane refl) ((whole.stmt f l).takes refl refl) (λ e. stmt f l);
+  stmt_good = λ f l. none_good _ _ (λ e. (whole.stmt_good f l).laws e);
+  stmt_starts = λ f l x ts rest q. absurd q;
+  block = λ f l. none_good _ _ (λ e. (whole.block f l).laws e);
+  deeper = λ e. absurd cc;
+  is_deeper = λ d. absurd d;
+  some_expr = λ b a ts rest q. absurd q;
+  some_operand = λ a ts rest q. absurd q;
+  some_callee = λ a ts rest q. absurd q;
+  some_stmt = λ f l x ts rest q. absurd q;
+  some_block = λ f l x ts rest q. absurd q;
+}
+
+-- ---- all levels
+
+unfoldable pub applied_within : ℕ → ℕ → Spelling Expr
+applied_within chains zero = λ a ts rest. ⊥
+applied_within chains (suc left) = AppliedOf chains left (parts_within chains left) (applied_within chains left)
+
+pub same_levels : (chains n : ℕ) → 1 ≤ chains → Inner false n n (parts_within chains n) (applied_within chains n) (levels_within chains n) (levels_within chains n)
+unfolding parts_within applied_within levels_within
+same_levels chains zero some = no_level
+same_levels chains (suc n) some = next_level false n n (parts_within chains n) (applied_within chains n) (levels_within chains n) (levels_within chains n) (same_levels chains n some) chains chains some some (λ e. absurd cc)
+
+pub wider_levels : (chains chains' n n' : ℕ) → 1 ≤ chains → 1 ≤ chains' → chains + 2 ≤ chains' → n + 2 ≤ n' → Inner true n n' (parts_within chains n) (applied_within chains n) (levels_within chains n) (levels_within chains' n')
+unfolding parts_within applied_within levels_within
+wider_levels chains chains' n zero some some' lt le = absurd (omega arith)
+wider_levels chains chains' n (suc zero) some some' lt le = absurd (omega arith)
+wider_levels chains chains' zero (suc (suc m)) some some' lt le =
+    let P = parts_within chains' (suc m) in
+    let Applied = applied_within chains' (suc m) in
+    let w = levels_within chains' (suc m) in
+    let inner = same_levels chains' (suc m) some' in
+    beside_none (suc (suc m)) (parts_within chains' (suc (suc m))) (applied_within chains' (suc (suc m))) (levels_within chains' (suc (suc m))) refl (same_levels chains' (suc (suc m)) some')
+    (λ b. firsts.assign_begins false (suc m) (suc m) P Applied w w inner chains' chains' (λ e. absurd cc) refl b)
+    (members.member_begins false (suc m) (suc m) P Applied w w inner chains' chains' (λ e. absurd cc))
+    (λ f l. firsts.statement_begins false (suc m) (suc m) P Applied w w inner chains' chains' (λ e. absurd cc) refl f l)
+wider_levels chains chains' (suc n) (suc (suc m)) some some' lt le =
+    next_level true n (suc m) (parts_within chains n) (applied_within chains n) (levels_within chains n) (levels_within chains' (suc m)) (wider_levels chains chains' n (suc m) some some' lt (omega arith)) chains chains' some some' (λ e. lt)

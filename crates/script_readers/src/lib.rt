@@ -1,0 +1,11 @@
+//! The readers of the forms of a script, each read from left to right up to the first token that it
+//! can't take (ECMAScript, 13 to 16), and their laws: what they read is what the grammar says, and where
+//! they stop is the first fault.
+//!
+//! `specs` has the readers, `proofs` the laws. The code does nothing: its contracts are the laws that
+//! others may use.
+#![tactic(auto)]
+
+mod laws;
+
+pub use laws::{scripts_are_read_one_way, tokens_of_a_text_end_well, wider_limits_keep_scripts};
