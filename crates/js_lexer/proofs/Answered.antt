@@ -46,15 +46,15 @@ kind_of : LexKind → Read → LexKind
 kind_of k (Ok ts) = k
 kind_of k (Err e) = e.1
 
-both_tokens : (r : Read) (ts us : List Token) → r ≡ Ok ts → r ≡ Ok us → ts ≡ us
+pub both_tokens : (r : Read) (ts us : List Token) → r ≡ Ok ts → r ≡ Ok us → ts ≡ us
 unfolding tokens_of
 both_tokens r ts us e f = ap tokens_of (sym e ∙ f)
 
-both_places : (r : Read) (at place : ℕ) (kind k : LexKind) → r ≡ Err (at, kind) → r ≡ Err (place, k) → (at ≡ place) × (kind ≡ k)
+pub both_places : (r : Read) (at place : ℕ) (kind k : LexKind) → r ≡ Err (at, kind) → r ≡ Err (place, k) → (at ≡ place) × (kind ≡ k)
 unfolding place_of kind_of
 both_places r at place kind k e f = (ap place_of (sym e ∙ f), ap (kind_of k) (sym e ∙ f))
 
-never : (r : Read) (ts : List Token) (p : ℕ × LexKind) → r ≡ Ok ts → r ≡ Err p → ⊥
+pub never : (r : Read) (ts : List Token) (p : ℕ × LexKind) → r ≡ Ok ts → r ≡ Err p → ⊥
 never (Ok us) ts p e f = absurd cc
 never (Err q) ts p e f = absurd cc
 

@@ -16,3 +16,4 @@ pub mod First
 pub mod Whole
 pub mod Loop
 pub mod Answered
+pub mod OneReading

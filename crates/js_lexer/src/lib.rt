@@ -2,6 +2,7 @@
 #![tactic(auto)]
 
 mod escapes;
+mod laws;
 mod marks;
 mod numbers;
 mod pieces;
@@ -13,4 +14,5 @@ mod texts;
 mod tokens;
 
 pub use js_syntax::{LexFault, LexKind};
+pub use laws::{texts_have_one_list_of_tokens, texts_have_tokens_or_one_fault};
 pub use tokens::lex;

@@ -1,9 +1,8 @@
 -- Where the built-ins stand before anything, and what the scripts among them do, computed by the definitions alone.
-use Rattle.std.specs.Prelude.{◌≡◌, ℕ, List, [], ◌∷◌, Option, Some, None, true, false, codes}
+use Rattle.std.specs.Prelude.{◌≡◌, ℕ, List, [], ◌∷◌, Some, true, false, codes}
 use Rattle.door.specs.declared.marks.Outcome.TheVariants.{Done}
 use Rattle.js_syntax.specs.declared.tree.Expr.TheVariants as ex
-use Rattle.js_syntax.specs.declared.tree.Stmt.TheVariants as st
-use Rattle.script_meaning.specs.Machine.{Machine, Own, Thing, Refers, Property, Datum}
+use Rattle.script_meaning.specs.Machine.{Own, Thing, Refers, Datum}
 use Rattle.script_meaning.specs.Members.{own_property}
 use Rattle.script_meaning.specs.Places.{OBJECT_PROTOTYPE, FUNCTION_PROTOTYPE, ARRAY_PROTOTYPE, STRING_PROTOTYPE, NUMBER_PROTOTYPE, BOOLEAN_PROTOTYPE, ERROR_PROTOTYPE, DOCUMENT_PROTOTYPE, ELEMENT_PROTOTYPE, CHARACTER_DATA_PROTOTYPE, WINDOW_PROTOTYPE, EVENT_PROTOTYPE}
 use Rattle.script_meaning.specs.Intrinsics.{fresh}

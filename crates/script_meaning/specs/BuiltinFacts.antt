@@ -1,17 +1,13 @@
 -- What small programs do, computed by the definitions alone: built-ins. The expected values are those of ECMAScript and of the costs of this
 -- project.
-use Rattle.std.specs.Prelude.{◌≡◌, ℕ, List, [], ◌∷◌, Option, Some, None, true, false, codes, length}
+use Rattle.std.specs.Prelude.{[], ◌∷◌, Some, true, codes}
 use Rattle.base_text.specs.declared.operators.BinaryOp.TheVariants as binary
 use Rattle.base_text.specs.declared.operators.UnaryOp.TheVariants as unary
-use Rattle.door.specs.declared.marks.Outcome.TheVariants.{Done, Throw, Stop}
-use Rattle.door.specs.declared.marks.StopKind.TheVariants.{Fuel, Levels, Cells}
+use Rattle.door.specs.declared.marks.Outcome.TheVariants.{Done, Throw}
 use Rattle.js_syntax.specs.declared.tree.Expr.TheVariants as ex
 use Rattle.js_syntax.specs.declared.tree.Stmt.TheVariants as st
-use Rattle.js_syntax.specs.declared.tree.ForStart.TheVariants as start
-use Rattle.js_syntax.specs.declared.tree.ForTarget.TheVariants as target
 use Rattle.js_syntax.specs.declared.tree.Property.TheVariants as property
-use Rattle.js_syntax.specs.declared.tree.UpdateOp.TheVariants.{Increment, Decrement}
-use Rattle.script_meaning.specs.Programs.{Does, n, name, do_, say, var_, assign, call, member, lambda, declared}
+use Rattle.script_meaning.specs.Programs.{Does, n, name, do_, say, var_, call, member, lambda, declared}
 
 -- built-ins
 pub record Builtins : Type 0 where

@@ -1,14 +1,11 @@
 -- Calls and constructions (ECMAScript, 13.3.6, 13.3.5 and 10.2). Who calls has taken a level; what isn't a function is found out then.
-use Rattle.std.specs.Prelude.{ℕ, Bool, true, false, List, [], ◌∷◌, Option, Some, None, codes}
-use Rattle.script_meaning.specs.Builtin.{Builtin}
+use Rattle.std.specs.Prelude.{ℕ, List, [], Option, Some, None, codes}
 use Rattle.script_meaning.specs.Places.{OBJECT_PROTOTYPE}
 use Rattle.script_meaning.specs.Machine.{Machine, Cell, Form, Plain, Closure, Native, Value, Primitive, Refers, Reference, Own, cell_at}
-use Rattle.script_meaning.specs.Solo.{Fails}
 use Rattle.script_meaning.specs.Faults.{not_a_function, wrong_kind}
-use Rattle.script_meaning.specs.Evaluator.{Gives, Rest, With, Cont, Meaning, Evaluator, bind, choose, made, fails_by}
+use Rattle.script_meaning.specs.Evaluator.{Gives, Meaning, Evaluator, bind, choose, made, fails_by}
 use Rattle.script_meaning.specs.Members.{get_row}
 use Rattle.script_meaning.specs.Functions.{closure_row}
-use Rattle.script_meaning.specs.Operations.{is_function}
 use Rattle.script_meaning.specs.Natives.{native_row, makes_objects}
 
 abbrev pub called_form : Evaluator → Option Form → Value → List Value → Meaning

@@ -3,7 +3,6 @@
 use Rattle.std.specs.Prelude.{◌≡◌, ◌⊎◌, ℕ, List, [], ◌∷◌, codes}
 use Rattle.door.specs.declared.values.Thing.{Thing}
 use Rattle.door.specs.declared.requests.Answer.{Answer}
-use Rattle.door.specs.declared.marks.Entry.{Entry}
 use Rattle.door.specs.declared.marks.Entry.TheVariants as entry
 use Rattle.door.specs.declared.marks.Outcome.TheVariants.{Syntax}
 use Rattle.js_syntax.specs.declared.token.Token.{Token}
@@ -17,7 +16,7 @@ use Rattle.js_syntax.specs.Tokens.{AreTokens}
 use Rattle.js_syntax.specs.TokenFaults.{IsFault}
 use Rattle.js_syntax.specs.Scripts.{IsScript, IsFirstFault, CHAIN_LIMIT, LEVEL_LIMIT}
 use Rattle.script_meaning.specs.Machine.{Machine, Refers, Own}
-use Rattle.script_meaning.specs.Solo.{Tree, Tells, Awaits, Fails, Leaves, Entering}
+use Rattle.script_meaning.specs.Solo.{Tree, Tells, Fails, Point, Awaits, Leaves, Entering}
 use Rattle.script_meaning.specs.Evaluator.{Meaning, Evaluator, bind}
 use Rattle.script_meaning.specs.Requests.{met_row}
 use Rattle.script_meaning.specs.Intrinsics.{Setup, fresh}
@@ -83,5 +82,5 @@ enters (entry.Timer place) levels m back tree = tree ≡ timer_entry FUEL levels
 enters (entry.Serve value operation) levels m back tree = ⊥
 
 -- before anything the machine waits for an entry; nothing is unfinished, so nothing comes back
-abbrev pub beginning : Setup → Tree Machine
+abbrev pub beginning : Setup → Point Machine
 beginning setup = Awaits LEVELS (fresh setup) (λ m answer. Fails)

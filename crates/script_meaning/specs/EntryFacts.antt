@@ -1,15 +1,14 @@
 -- What entries do one after the other on one machine, computed by the definitions alone. A script's first cell has the place 300.
-use Rattle.std.specs.Prelude.{◌≡◌, ℕ, List, [], ◌∷◌, ◌++◌, Option, Some, None, true, codes}
+use Rattle.std.specs.Prelude.{◌≡◌, ℕ, List, [], ◌∷◌, Some, true, codes}
 use Rattle.base_text.specs.declared.operators.BinaryOp.TheVariants as binary
 use Rattle.base_text.specs.declared.operators.UnaryOp.TheVariants as unary
 use Rattle.door.specs.declared.values.Kind.TheVariants.{Window, Event}
 use Rattle.door.specs.declared.values.Thing.{Thing}
-use Rattle.door.specs.declared.marks.Outcome.TheVariants.{Done, Throw, Stop}
+use Rattle.door.specs.declared.marks.Outcome.TheVariants.{Done, Throw}
 use Rattle.js_syntax.specs.declared.tree.Expr.TheVariants as ex
 use Rattle.js_syntax.specs.declared.tree.Stmt.{Stmt}
 use Rattle.js_syntax.specs.declared.tree.Stmt.TheVariants as st
-use Rattle.script_meaning.specs.Machine.{Machine}
-use Rattle.script_meaning.specs.Solo.{Tree, Fails}
+use Rattle.script_meaning.specs.Solo.{Fails}
 use Rattle.script_meaning.specs.Meaning.{script_entry, timer_entry}
 use Rattle.script_meaning.specs.Entries.{listener_entry}
 use Rattle.script_meaning.specs.Intrinsics.{fresh}

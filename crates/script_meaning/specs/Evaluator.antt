@@ -1,15 +1,14 @@
 -- The core of the meaning: how an evaluation ends, what follows it, and what the meanings of the forms are given of one another. Units of
 -- fuel, levels and room for cells are charged here alone, and nothing catches the stop that they end in (this project's own).
-use Rattle.std.specs.Prelude.{ℕ, zero, suc, ◌+◌, ◌-◌, ◌/◌, Bool, true, false, List, [], ◌∷◌, ◌++◌, Option, Some, None, length, nat_le, nat_lt, codes}
+use Rattle.std.specs.Prelude.{ℕ, zero, suc, ◌+◌, ◌-◌, ◌/◌, Bool, true, false, List, [], ◌∷◌, ◌++◌, Option, Some, length, nat_le, codes}
 use Rattle.base_text.specs.Scalars.{utf8_len}
-use Rattle.base_text.specs.declared.text.TheConstants.{TEXT_LIMIT}
 use Rattle.door.specs.declared.requests.Request.{Request}
 use Rattle.door.specs.declared.requests.Answer.{Answer}
 use Rattle.door.specs.declared.marks.StopKind.{StopKind}
 use Rattle.door.specs.declared.marks.StopKind.TheVariants.{Fuel, Cells}
 use Rattle.js_syntax.specs.declared.tree.Expr.{Expr}
 use Rattle.js_syntax.specs.declared.tree.Stmt.{Stmt}
-use Rattle.script_meaning.specs.Machine.{Machine, Cell, Scope, Binding, Value, Refers, Own, Error, Datum, text, with_cell}
+use Rattle.script_meaning.specs.Machine.{Machine, Cell, Scope, Value, Refers, Own, Error, Datum, text}
 use Rattle.script_meaning.specs.Solo.{Tree, Asks}
 use Rattle.script_meaning.specs.Faults.{Fault, fitting}
 use Rattle.script_meaning.specs.Places.{ERROR_PROTOTYPE}

@@ -1,5 +1,5 @@
 -- The expressions, one row for each form (ECMAScript, 13). A row is given the meanings of its parts with the levels that are left.
-use Rattle.std.specs.Prelude.{ℕ, Bool, true, false, List, [], ◌∷◌, ◌++◌, Option, Some, None, pos, is_some}
+use Rattle.std.specs.Prelude.{ℕ, true, List, [], ◌∷◌, Option, Some, None, pos}
 use Rattle.base_text.specs.declared.operators.BinaryOp.{BinaryOp}
 use Rattle.base_text.specs.declared.operators.UnaryOp.{UnaryOp}
 use Rattle.base_text.specs.declared.operators.UnaryOp.TheVariants as unary
@@ -10,10 +10,9 @@ use Rattle.js_syntax.specs.declared.tree.Function.{Function}
 use Rattle.js_syntax.specs.declared.tree.Property.{Property as PropertyTree, out-Property}
 use Rattle.script_meaning.specs.Forms.{ExprForm, PropertyForm}
 use Rattle.script_meaning.specs.Places.{OBJECT_PROTOTYPE, ARRAY_PROTOTYPE}
-use Rattle.script_meaning.specs.Machine.{Machine, Cell, Value, Refers, Reference, Own, Property, Datum, Accessor, Plain, Array, undefined, null, boolean, number, text, with_cell}
-use Rattle.script_meaning.specs.Solo.{Fails}
+use Rattle.script_meaning.specs.Machine.{Cell, Value, Refers, Reference, Own, Property, Datum, Accessor, Plain, Array, undefined, null, boolean, number, text, with_cell}
 use Rattle.script_meaning.specs.Faults.{wrong_kind}
-use Rattle.script_meaning.specs.Evaluator.{Gives, Ends, Rest, With, Cont, Meaning, Evaluator, Context, bind, follow, choose, made, scope_made, fails_by, list_row}
+use Rattle.script_meaning.specs.Evaluator.{Gives, With, Meaning, Evaluator, Context, bind, follow, choose, made, scope_made, fails_by, list_row}
 use Rattle.script_meaning.specs.Members.{get_row, define_row, delete_row, own_property}
 use Rattle.script_meaning.specs.Names.{name_row, missing_throws, missing_undefined, with_name}
 use Rattle.script_meaning.specs.Functions.{function_made}

@@ -1,10 +1,9 @@
 -- What small programs do, computed by the definitions alone. The expected values are those of ECMAScript and of the costs of this project:
 -- a unit for each expression and statement, each request, and each started 64 bytes of a text that is made.
-use Rattle.std.specs.Prelude.{◌≡◌, ℕ, List, [], ◌∷◌, Option, Some, None, true, false, codes, length}
+use Rattle.std.specs.Prelude.{[], ◌∷◌, true, codes}
 use Rattle.base_text.specs.declared.operators.BinaryOp.TheVariants as binary
 use Rattle.base_text.specs.declared.operators.UnaryOp.TheVariants as unary
-use Rattle.door.specs.declared.marks.Outcome.TheVariants.{Done, Throw, Stop}
-use Rattle.door.specs.declared.marks.StopKind.TheVariants.{Fuel, Levels, Cells}
+use Rattle.door.specs.declared.marks.Outcome.TheVariants.{Done, Throw}
 use Rattle.js_syntax.specs.declared.tree.Expr.TheVariants as ex
 use Rattle.script_meaning.specs.Programs.{Does, n, name, do_, say}
 

@@ -1,5 +1,4 @@
 -- One level of a tree, in which the parts are trees again.
-use Rattle.std.specs.Prelude.{List}
 use Rattle.js_syntax.specs.declared.tree.Expr.{Expr}
 use Rattle.js_syntax.specs.declared.tree.Expr.TheOpen.{Expr-F, Stmt-F, ForStart-F, ForTarget-F, Property-F}
 use Rattle.js_syntax.specs.declared.tree.ForStart.{ForStart}

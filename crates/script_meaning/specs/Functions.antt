@@ -2,9 +2,9 @@
 use Rattle.std.specs.Prelude.{ℕ, true, false, List, [], ◌∷◌, Option, Some, None, codes}
 use Rattle.js_syntax.specs.declared.tree.Function.{Function}
 use Rattle.js_syntax.specs.declared.tree.Stmt.{Stmt}
-use Rattle.script_meaning.specs.Machine.{Machine, Cell, Scope, Binding, Value, Refers, Own, Datum, Plain, Closure, undefined}
+use Rattle.script_meaning.specs.Machine.{Cell, Scope, Binding, Value, Refers, Own, Datum, Plain, Closure, undefined}
 use Rattle.script_meaning.specs.Places.{OBJECT_PROTOTYPE, FUNCTION_PROTOTYPE}
-use Rattle.script_meaning.specs.Evaluator.{Done, Gives, Ends, Breaks, Continues, Returns, Throws, Halts, Rest, With, Cont, Meaning, Evaluator, Context, follow, made, scope_made}
+use Rattle.script_meaning.specs.Evaluator.{Gives, Ends, Returns, Throws, Halts, Rest, With, Cont, Meaning, Evaluator, Context, follow, made, scope_made}
 use Rattle.script_meaning.specs.Members.{define_row}
 use Rattle.script_meaning.specs.Names.{declare_row, declare_vars_row, declared_in}
 use Rattle.script_meaning.specs.Bodies.{var_names, functions}

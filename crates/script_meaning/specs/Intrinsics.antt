@@ -1,9 +1,9 @@
 -- The cells that each actor begins with, in the order of their places: the built-ins as their table lists them, a constructor directly
 -- followed by its prototype, then the scripts among them and the interfaces, each followed by its prototype, and then the members of the outside (ECMAScript, 19 to 23;
 -- Web IDL, 3.7; the places are this project's own). What isn't built yet takes no place.
-use Rattle.std.specs.Prelude.{ℕ, zero, suc, ◌-◌, ◌+◌, ◌==◌, Bool, true, false, List, [], ◌∷◌, ◌++◌, Option, Some, None, length, map, replicate, codes, if◌then◌else◌}
+use Rattle.std.specs.Prelude.{ℕ, suc, ◌-◌, ◌+◌, ◌==◌, Bool, true, false, List, [], ◌∷◌, ◌++◌, Option, Some, None, length, replicate, codes, if◌then◌else◌}
 use Rattle.door.specs.declared.zones.Zone.{Zone}
-use Rattle.door.specs.declared.zones.Zone.TheVariants.{Page, XrayScript}
+use Rattle.door.specs.declared.zones.Zone.TheVariants.{Page}
 use Rattle.door.specs.declared.grants.GrantSet.{GrantSet}
 use Rattle.door.specs.declared.values.Kind.TheVariants.{Window}
 use Rattle.door.specs.declared.members.Member.{Member}

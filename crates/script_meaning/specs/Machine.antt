@@ -1,6 +1,6 @@
 -- What the machine of one actor holds: proper cells by place, scopes, what it has met, and how many cells it may still make.
 -- Each reference names something of this one actor (ECMAScript, 6.1.7 and 9.1; the places and the limit are this project's own).
-use Rattle.std.specs.Prelude.{ℕ, Bool, true, false, List, [], ◌∷◌, ◌++◌, Option, Some, None, slice_get, slice_set, pos, negsuc, ℤ}
+use Rattle.std.specs.Prelude.{ℕ, Bool, List, Option, Some, None, slice_get, slice_set, pos, ℤ}
 use Rattle.door.specs.declared.values.Actor.{Actor}
 use Rattle.door.specs.declared.values.Kind.{Kind}
 use Rattle.door.specs.declared.values.Shape.{Shape}

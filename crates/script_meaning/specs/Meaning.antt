@@ -1,16 +1,16 @@
 -- The meaning of the language while so many levels are left, and how an entry goes. A level is taken by each expression, statement and call
 -- that isn't finished, and a unit is charged for each expression and statement when it begins (this project's own).
-use Rattle.std.specs.Prelude.{ℕ, zero, suc, ◌-◌, ◌++◌, ◌∷◌, [], List, Option, Some, None, codes}
+use Rattle.std.specs.Prelude.{ℕ, zero, suc, ◌-◌, ◌++◌, [], List, Option, Some, None, codes}
 use Rattle.door.specs.declared.marks.StopKind.TheVariants.{Levels}
 use Rattle.door.specs.declared.marks.Outcome.{Outcome}
 use Rattle.door.specs.declared.marks.Outcome.TheVariants.{Done as DoneOutcome, Throw, Stop}
 use Rattle.door.specs.declared.requests.Answer.{Answer}
-use Rattle.js_syntax.specs.declared.tree.Expr.{Expr, out-Expr}
+use Rattle.js_syntax.specs.declared.tree.Expr.{out-Expr}
 use Rattle.js_syntax.specs.declared.tree.Stmt.{Stmt, out-Stmt}
 use Rattle.script_meaning.specs.Primitives.{text_of}
 use Rattle.script_meaning.specs.Machine.{Machine, Cell, Form, Error, Value, Primitive, Refers, Own, cell_at, undefined, the_window}
 use Rattle.script_meaning.specs.Solo.{Tree, Tells, Leaves}
-use Rattle.script_meaning.specs.Evaluator.{Done, Gives, Ends, Breaks, Continues, Returns, Throws, Halts, Rest, Cont, Meaning, Evaluator, Context, charge}
+use Rattle.script_meaning.specs.Evaluator.{Done, Throws, Halts, Cont, Meaning, Evaluator, Context, charge}
 use Rattle.script_meaning.specs.Expressions.{expr_row, operand_row, callee_row}
 use Rattle.script_meaning.specs.Statements.{stmt_row}
 use Rattle.script_meaning.specs.Functions.{script_row}

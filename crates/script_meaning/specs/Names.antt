@@ -1,9 +1,9 @@
 -- Names: the innermost scope that has one, and then the global object (ECMAScript, 9.1 and 6.2.5).
-use Rattle.std.specs.Prelude.{ℕ, zero, suc, ◌+◌, true, List, [], ◌∷◌, ◌++◌, Option, Some, None, length, codes, if◌then◌else◌, is_some}
+use Rattle.std.specs.Prelude.{ℕ, zero, suc, ◌+◌, true, List, [], ◌∷◌, ◌++◌, Option, Some, None, length, if◌then◌else◌, is_some}
 use Rattle.std.specs.Str.{bytes_eq}
 use Rattle.script_meaning.specs.Machine.{Machine, Scope, Binding, Value, Refers, Property, Datum, undefined, scope_at, with_scope, global_of}
 use Rattle.script_meaning.specs.Faults.{not_defined}
-use Rattle.script_meaning.specs.Evaluator.{Gives, Ends, Rest, With, Cont, Meaning, Evaluator, Context, follow, fails_by}
+use Rattle.script_meaning.specs.Evaluator.{Gives, Ends, Meaning, Evaluator, Context, follow, fails_by}
 use Rattle.script_meaning.specs.Members.{Found, Missing, Stands, Beyond, found, read_row, set_row, define_row, own_property}
 
 -- ---- a scope's names

@@ -1,18 +1,17 @@
 -- The built-ins, one row for each (ECMAScript, 20 to 23). Each place, element or key that one copies or moves costs a unit, and so does each
 -- started 64 bytes of a text that it answers (this project's own).
-use Rattle.std.specs.Prelude.{ℕ, zero, suc, Bool, true, false, not, ◌&&◌, ◌||◌, ◌==◌, ◌-◌, ◌+◌, List, [], ◌∷◌, ◌++◌, Option, Some, None, length, map, take, drop, reverse, slice_get, nat_lt, is_some, pos, negsuc, ℤ, int_div, int_lt, unsigned_abs, codes, Result, Ok, Err}
-use Rattle.door.specs.declared.values.Kind.{Kind as ThingKind}
+use Rattle.std.specs.Prelude.{ℕ, Bool, true, false, ◌||◌, ◌==◌, ◌-◌, ◌+◌, List, [], ◌∷◌, ◌++◌, Option, Some, None, length, map, take, drop, reverse, is_some, pos, ℤ, int_div, int_lt, unsigned_abs, codes}
 use Rattle.script_meaning.specs.Builtin as b
 use Rattle.script_meaning.specs.Builtin.{Builtin}
-use Rattle.script_meaning.specs.Primitives.{Prim, Undefined, Null, BoolPrim, NumberPrim, StrPrim, Range, number_of}
-use Rattle.script_meaning.specs.Machine.{Machine, Cell, Form, Plain, Array, Closure, Native, Error, Reference, Own, Thing, Foreign, Value, Primitive, Refers, Property, Datum, Accessor, undefined, null, boolean, number, text, count, cell_at, with_cell}
+use Rattle.script_meaning.specs.Primitives.{Undefined, Null, BoolPrim, NumberPrim, number_of}
+use Rattle.script_meaning.specs.Machine.{Machine, Cell, Form, Plain, Array, Reference, Own, Value, Primitive, Refers, Property, Datum, Accessor, undefined, null, boolean, number, text, count, cell_at, with_cell}
 use Rattle.script_meaning.specs.Places.{OBJECT_PROTOTYPE}
 use Rattle.script_meaning.specs.Solo.{Fails}
-use Rattle.script_meaning.specs.Faults.{Fault, wrong_kind, out_of_range, operator_fault}
-use Rattle.script_meaning.specs.Evaluator.{Gives, Ends, Rest, With, Cont, Meaning, Evaluator, bind, follow, choose, charge, made, error_cell, fails_by}
+use Rattle.script_meaning.specs.Faults.{wrong_kind, out_of_range}
+use Rattle.script_meaning.specs.Evaluator.{Gives, Rest, With, Cont, Meaning, Evaluator, bind, follow, choose, charge, made, error_cell, fails_by}
 use Rattle.script_meaning.specs.Members.{own_property, prototype_of, chain_bound, get_row, has_row, define_row, keys_row, key_row}
 use Rattle.script_meaning.specs.Operations.{truth, is_function, is_above, is_same_reference, answer_row}
-use Rattle.script_meaning.specs.Expressions.{object_cell, array_cell}
+use Rattle.script_meaning.specs.Expressions.{array_cell}
 use Rattle.script_meaning.specs.Requests.{text_argument, number_argument, argument, asks_row}
 use Rattle.script_meaning.specs.Texts.{text_answer, char_at_row, char_code_at_row, index_of_row, slice_row, substring_row, parts_of, parts_units, replace_row, trim_row, case_row, lower, upper, itself_row, this_text}
 

@@ -1,15 +1,15 @@
 -- What the operators do with values (ECMAScript, 13.5 to 13.11): the operators' table on primitives, and identity on references.
-use Rattle.std.specs.Prelude.{ℕ, zero, suc, Bool, true, false, not, ◌&&◌, List, [], ◌∷◌, Option, Some, None, length, ◌+◌, ◌==◌, pos, codes, if◌then◌else◌, Result, Ok, Err}
+use Rattle.std.specs.Prelude.{ℕ, zero, suc, Bool, true, false, not, List, Option, Some, None, ◌==◌, pos, codes, if◌then◌else◌, Result, Ok, Err}
 use Rattle.base_text.specs.declared.operators.BinaryOp.{BinaryOp}
 use Rattle.base_text.specs.declared.operators.BinaryOp.TheVariants as binary
 use Rattle.base_text.specs.declared.operators.UnaryOp.{UnaryOp}
 use Rattle.base_text.specs.declared.operators.UnaryOp.TheVariants as unary
 use Rattle.js_syntax.specs.declared.tree.UpdateOp.{UpdateOp}
 use Rattle.js_syntax.specs.declared.tree.UpdateOp.TheVariants.{Increment, Decrement}
-use Rattle.script_meaning.specs.Primitives.{Prim, StrPrim, NumberPrim, OpFault, Kind, binary_of, unary_of, truth_of}
-use Rattle.script_meaning.specs.Machine.{Machine, Cell, MetObject, Form, Plain, Array, Closure, Native, Error, Link, Reference, Own, Thing, Foreign, Value, Primitive, Refers, cell_at, boolean, text}
+use Rattle.script_meaning.specs.Primitives.{Prim, StrPrim, NumberPrim, OpFault, binary_of, unary_of, truth_of}
+use Rattle.script_meaning.specs.Machine.{Machine, Cell, Form, Closure, Native, Reference, Own, Thing, Foreign, Value, Primitive, Refers, cell_at, boolean, text}
 use Rattle.script_meaning.specs.Faults.{wrong_kind, operator_fault}
-use Rattle.script_meaning.specs.Evaluator.{Gives, Rest, With, Cont, Meaning, Evaluator, bind, charge, text_units, fails_by}
+use Rattle.script_meaning.specs.Evaluator.{Gives, Meaning, Evaluator, bind, charge, text_units, fails_by}
 use Rattle.script_meaning.specs.Members.{prototype_of, chain_bound, get_row, has_row, key_row}
 
 -- truth; each reference is true (ECMAScript, 7.1.2)

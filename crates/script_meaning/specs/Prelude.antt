@@ -1,6 +1,6 @@
 -- The functions of Array.prototype that are scripts (ECMAScript, 23.1.3, in this project's own text). Above each stands its text, where L is
 -- `for (var i = 0; i < this.length; i = i + 1)`.
-use Rattle.std.specs.Prelude.{ℕ, true, false, List, [], ◌∷◌, Option, Some, None, codes}
+use Rattle.std.specs.Prelude.{ℕ, true, false, List, [], ◌∷◌, Some, None, codes}
 use Rattle.base_text.specs.declared.operators.BinaryOp.{BinaryOp}
 use Rattle.base_text.specs.declared.operators.BinaryOp.TheVariants as binary
 use Rattle.base_text.specs.declared.operators.UnaryOp.TheVariants as unary

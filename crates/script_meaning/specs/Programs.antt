@@ -13,10 +13,8 @@ use Rattle.js_syntax.specs.declared.tree.Expr.{Expr}
 use Rattle.js_syntax.specs.declared.tree.Expr.TheVariants as ex
 use Rattle.js_syntax.specs.declared.tree.Stmt.{Stmt}
 use Rattle.js_syntax.specs.declared.tree.Stmt.TheVariants as st
-use Rattle.js_syntax.specs.declared.tree.Declaration.{Declaration}
-use Rattle.js_syntax.specs.declared.tree.Function.{Function}
 use Rattle.script_meaning.specs.Machine.{Machine}
-use Rattle.script_meaning.specs.Solo.{Tree, Asks, Tells, Awaits, Fails, Leaves}
+use Rattle.script_meaning.specs.Solo.{Tree, Asks, Tells, Fails, Leaves}
 use Rattle.script_meaning.specs.Intrinsics.{Setup, fresh}
 use Rattle.script_meaning.specs.Meaning.{script_entry}
 

@@ -1,6 +1,6 @@
 -- Lists of properties in order of insertion, and what a cell has of its own (ECMAScript, 10.1.5 to 10.1.11 and 10.4.2). An array's
 -- places are dense and its keys come before the others.
-use Rattle.std.specs.Prelude.{ℕ, zero, suc, Bool, true, false, ◌&&◌, ◌+◌, ◌-◌, ◌*◌, ◌==◌, List, [], ◌∷◌, ◌++◌, Option, Some, None, length, map, take, slice_get, slice_set, nat_le, nat_lt, pos, negsuc, ℤ, if◌then◌else◌, codes}
+use Rattle.std.specs.Prelude.{ℕ, zero, suc, Bool, true, false, ◌&&◌, ◌+◌, ◌-◌, ◌*◌, ◌==◌, List, [], ◌∷◌, ◌++◌, Option, Some, None, length, take, slice_get, slice_set, nat_le, nat_lt, pos, negsuc, ℤ, if◌then◌else◌, codes}
 use Rattle.std.specs.Fmt.{decimal}
 use Rattle.std.specs.Str.{bytes_eq}
 use Rattle.std.specs.declared.result.Result.{Result}
@@ -8,7 +8,7 @@ use Rattle.std.specs.declared.result.Result.TheVariants.{Ok, Err}
 use Rattle.door.specs.declared.requests.ErrorKind.{ErrorKind}
 use Rattle.door.specs.declared.requests.ErrorKind.TheVariants.{Range, Kind}
 use Rattle.script_meaning.specs.Primitives.{NumberPrim}
-use Rattle.script_meaning.specs.Machine.{Reference, Value, Primitive, Refers, Property, Datum, Accessor, Slot, Form, Plain, Array, Closure, Native, Error, Link, Cell, count}
+use Rattle.script_meaning.specs.Machine.{Value, Primitive, Property, Datum, Accessor, Slot, Form, Array, Cell, count}
 
 -- ---- lists of properties
 

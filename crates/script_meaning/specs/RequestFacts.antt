@@ -1,6 +1,6 @@
 -- What a userscript asks for and the units that it uses, computed by the definitions alone. The window is the first thing that it has met, so
 -- the document is the next.
-use Rattle.std.specs.Prelude.{◌≡◌, ℕ, List, [], ◌∷◌, codes}
+use Rattle.std.specs.Prelude.{ℕ, List, [], ◌∷◌, codes}
 use Rattle.base_text.specs.declared.operators.BinaryOp.TheVariants as binary
 use Rattle.door.specs.declared.values.Kind.TheVariants.{Window, Document}
 use Rattle.door.specs.declared.values.Thing.{Thing}

@@ -14,7 +14,7 @@ use Rattle.door.specs.declared.requests.Answer.{Answer}
 use Rattle.door.specs.declared.requests.Answer.TheVariants.{Value as ValueAnswer, Throw as ThrowAnswer}
 use Rattle.door.specs.declared.marks.StopKind.TheVariants.{Cells}
 use Rattle.script_meaning.specs.Primitives.{Undefined, NumberPrim, StrPrim, text_of}
-use Rattle.script_meaning.specs.Machine.{Machine, MetThing, Reference, Own, Thing, Foreign, Value, Primitive, Refers, undefined, text, thing_at, global_of}
+use Rattle.script_meaning.specs.Machine.{Machine, MetThing, Thing, Value, Primitive, Refers, undefined, text, thing_at, global_of}
 use Rattle.script_meaning.specs.Solo.{Fails}
 use Rattle.script_meaning.specs.Faults.{wrong_kind, text_too_long, refusal_fault}
 use Rattle.script_meaning.specs.Evaluator.{Gives, Halts, Rest, With, Cont, Meaning, choose, charge, text_units, ask, fails_by}

@@ -1,5 +1,4 @@
--- What a script does next, as a tree; this project's own. It has the form of the machine of the small forms, with the service that one
--- actor asks of another beside it.
+-- What a script does next, as a tree; this project's own.
 use Rattle.std.specs.Prelude.{ℕ}
 use Rattle.door.specs.declared.values.Thing.{Thing}
 use Rattle.door.specs.declared.values.Value.{Value}
@@ -16,13 +15,17 @@ pub data Act : Type 0 where
   Serves : Value → ServeOp → Act
   Leaves : Outcome → (units : ℕ) → Act
 
--- What a script does next, where M is what its machine holds: a request, and what follows each answer; a saying, and then it waits,
--- with so many levels left; or it was shown what doesn't fit. What waits goes on with an entry, or with what it waits for.
+-- What a script does next, where M is what its machine holds: a request, and what follows each answer; a saying, and then it waits, with
+-- so many levels left, for entries and for what it goes on with; or it was shown what doesn't fit.
 pub data Tree (M : Type 0) : Type 0 where
   Asks : Request → (Answer → Tree M) → Tree M
   Tells : Act → (levels : ℕ) → M → (M → Answer → Tree M) → Tree M
-  Awaits : (levels : ℕ) → M → (M → Answer → Tree M) → Tree M
   Fails : Tree M
+
+-- where a machine stands: it has this to do, or it waits
+pub data Point (M : Type 0) : Type 0 where
+  Does : Tree M → Point M
+  Awaits : (levels : ℕ) → M → (M → Answer → Tree M) → Point M
 
 -- how an entry goes on with a machine that waits with so many levels left, and then waits as before
 abbrev pub Entering : Type 0 → Type 1

@@ -1,16 +1,15 @@
 -- What small programs do, computed by the definitions alone: statements. The expected values are those of ECMAScript and of the costs of this
 -- project.
-use Rattle.std.specs.Prelude.{◌≡◌, ℕ, List, [], ◌∷◌, Option, Some, None, true, false, codes, length}
+use Rattle.std.specs.Prelude.{[], ◌∷◌, Some, None, codes}
 use Rattle.base_text.specs.declared.operators.BinaryOp.TheVariants as binary
 use Rattle.base_text.specs.declared.operators.UnaryOp.TheVariants as unary
-use Rattle.door.specs.declared.marks.Outcome.TheVariants.{Done, Throw, Stop}
-use Rattle.door.specs.declared.marks.StopKind.TheVariants.{Fuel, Levels, Cells}
+use Rattle.door.specs.declared.marks.Outcome.TheVariants.{Done, Throw}
 use Rattle.js_syntax.specs.declared.tree.Expr.TheVariants as ex
 use Rattle.js_syntax.specs.declared.tree.Stmt.TheVariants as st
 use Rattle.js_syntax.specs.declared.tree.ForStart.TheVariants as start
 use Rattle.js_syntax.specs.declared.tree.ForTarget.TheVariants as target
 use Rattle.js_syntax.specs.declared.tree.Property.TheVariants as property
-use Rattle.js_syntax.specs.declared.tree.UpdateOp.TheVariants.{Increment, Decrement}
+use Rattle.js_syntax.specs.declared.tree.UpdateOp.TheVariants.{Increment}
 use Rattle.script_meaning.specs.Programs.{Does, n, name, do_, say, var_, assign, call, member, lambda, declared}
 
 -- statements

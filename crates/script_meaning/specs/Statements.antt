@@ -1,5 +1,5 @@
 -- The statements, one row for each form (ECMAScript, 14). A row is given the meanings of its parts with the levels that are left.
-use Rattle.std.specs.Prelude.{ℕ, zero, suc, Bool, true, false, List, [], ◌∷◌, Option, Some, None, length}
+use Rattle.std.specs.Prelude.{ℕ, zero, suc, Bool, true, List, [], ◌∷◌, Option, Some, None, length}
 use Rattle.door.specs.declared.marks.StopKind.TheVariants.{Fuel}
 use Rattle.js_syntax.specs.declared.tree.Expr.{Expr, out-Expr}
 use Rattle.js_syntax.specs.declared.tree.Expr.TheOpen as o
@@ -11,7 +11,7 @@ use Rattle.js_syntax.specs.declared.tree.ForTarget.{ForTarget, out-ForTarget}
 use Rattle.script_meaning.specs.Forms.{StmtForm, StartForm, TargetForm}
 use Rattle.script_meaning.specs.Primitives.{Undefined, Null}
 use Rattle.script_meaning.specs.Machine.{Value, Primitive, undefined, text}
-use Rattle.script_meaning.specs.Evaluator.{Done, Gives, Ends, Breaks, Continues, Returns, Throws, Halts, Rest, With, Cont, Meaning, Evaluator, Context, bind, follow, unvalued, choose, charge, scope_made}
+use Rattle.script_meaning.specs.Evaluator.{Done, Ends, Breaks, Continues, Returns, Throws, Halts, Rest, With, Cont, Meaning, Evaluator, Context, bind, follow, unvalued, choose, charge, scope_made}
 use Rattle.script_meaning.specs.Members.{keys_row}
 use Rattle.script_meaning.specs.Names.{write_name_row}
 use Rattle.script_meaning.specs.Functions.{block_row}

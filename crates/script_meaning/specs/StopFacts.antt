@@ -1,17 +1,11 @@
 -- What small programs do, computed by the definitions alone: stops and uncaught throws. The expected values are those of ECMAScript and of the costs of this
 -- project.
-use Rattle.std.specs.Prelude.{◌≡◌, ℕ, List, [], ◌∷◌, Option, Some, None, true, false, codes, length}
-use Rattle.base_text.specs.declared.operators.BinaryOp.TheVariants as binary
-use Rattle.base_text.specs.declared.operators.UnaryOp.TheVariants as unary
+use Rattle.std.specs.Prelude.{[], ◌∷◌, Some, None, true, codes}
 use Rattle.door.specs.declared.marks.Outcome.TheVariants.{Done, Throw, Stop}
 use Rattle.door.specs.declared.marks.StopKind.TheVariants.{Fuel, Levels, Cells}
 use Rattle.js_syntax.specs.declared.tree.Expr.TheVariants as ex
 use Rattle.js_syntax.specs.declared.tree.Stmt.TheVariants as st
-use Rattle.js_syntax.specs.declared.tree.ForStart.TheVariants as start
-use Rattle.js_syntax.specs.declared.tree.ForTarget.TheVariants as target
-use Rattle.js_syntax.specs.declared.tree.Property.TheVariants as property
-use Rattle.js_syntax.specs.declared.tree.UpdateOp.TheVariants.{Increment, Decrement}
-use Rattle.script_meaning.specs.Programs.{Does, DoesIn, the_page, n, name, do_, say, var_, assign, call, member, lambda, declared}
+use Rattle.script_meaning.specs.Programs.{Does, DoesIn, the_page, n, name, do_, say, call, declared}
 use Rattle.script_meaning.specs.Intrinsics.{fresh}
 
 -- stops, and what is shown of a thrown value

@@ -1,12 +1,11 @@
 -- What is assigned, counted, deleted or set to a key: a name, or a member of a base (ECMAScript, 6.2.5 and 13.15). It isn't itself an
 -- evaluated expression, but the base and the key of a member are.
-use Rattle.std.specs.Prelude.{ℕ, List, [], ◌∷◌}
-use Rattle.js_syntax.specs.declared.tree.Expr.{Expr, out-Expr}
+use Rattle.std.specs.Prelude.{ℕ, List}
 use Rattle.js_syntax.specs.declared.tree.Expr.TheOpen as o
 use Rattle.script_meaning.specs.Forms.{ExprForm}
 use Rattle.script_meaning.specs.Machine.{Value}
 use Rattle.script_meaning.specs.Solo.{Fails}
-use Rattle.script_meaning.specs.Evaluator.{With, Cont, Meaning, Evaluator, Context, bind}
+use Rattle.script_meaning.specs.Evaluator.{With, Meaning, Evaluator, Context, bind}
 use Rattle.script_meaning.specs.Members.{get_row, set_row, key_row}
 use Rattle.script_meaning.specs.Names.{name_row, missing_throws, write_name_row}
 

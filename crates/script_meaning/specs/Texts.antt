@@ -1,7 +1,7 @@
 -- The functions of texts (ECMAScript, 22.1.3), on lists of scalars.
-use Rattle.std.specs.Prelude.{ℕ, zero, suc, ◌+◌, ◌-◌, min, max, Bool, true, false, ◌&&◌, ◌||◌, not, List, [], ◌∷◌, ◌++◌, Option, Some, None, length, map, take, drop, reverse, slice_get, nat_le, nat_eq, pos, negsuc, ℤ, if◌then◌else◌}
-use Rattle.script_meaning.specs.Primitives.{Prim, Undefined, StrPrim, NumberPrim, is_blank}
-use Rattle.script_meaning.specs.Machine.{Value, Primitive, Refers, number, text, count}
+use Rattle.std.specs.Prelude.{ℕ, zero, suc, ◌+◌, ◌-◌, min, max, Bool, true, false, ◌&&◌, List, [], ◌∷◌, ◌++◌, Option, Some, None, length, map, take, drop, reverse, slice_get, nat_le, nat_eq, pos, negsuc, ℤ, if◌then◌else◌}
+use Rattle.script_meaning.specs.Primitives.{Undefined, StrPrim, NumberPrim, is_blank}
+use Rattle.script_meaning.specs.Machine.{Value, Primitive, number, text, count}
 use Rattle.script_meaning.specs.Faults.{wrong_kind, out_of_range}
 use Rattle.script_meaning.specs.Evaluator.{Gives, Rest, With, Cont, Meaning, text_units, fails_by}
 use Rattle.script_meaning.specs.Requests.{text_made, text_argument, number_argument}
