@@ -1,18 +1,39 @@
--- What was read is what a run is given.
-use Rattle.std.proofs.Common.{◌≡◌, refl, ℕ, ◌+◌, ◌≤◌, Bool, true, false, List, [], ◌∷◌, length, arith, nat_eq, if◌then◌else◌}
+-- What was read is what a run is given, and each actor of the run does what its own machine does.
+use Rattle.std.proofs.Common.{◌≡◌, refl, inl, ap, ℕ, ◌+◌, ◌≤◌, Bool, true, false, List, [], ◌∷◌, ◌++◌, length, arith, codes, nat_eq, if◌then◌else◌}
+use Rattle.std.specs.List.{flat_map}
 use Rattle.std.proofs.lemmas.Bool.Decides.{nat_tests}
-use Rattle.std.proofs.lemmas.List.{length-map}
+use Rattle.std.proofs.lemmas.List.{length-append, length-map}
 use Rattle.door.specs.declared.marks.Mark.{Mark}
-use Rattle.door.specs.declared.zones.Zone.TheVariants.{Page as PageZone, XrayScript}
+use Rattle.door.specs.declared.marks.Entry.TheVariants.{Script}
+use Rattle.door.specs.declared.requests.Request.{Request}
+use Rattle.door.specs.declared.values.Actor.{Actor}
+use Rattle.door.specs.declared.zones.Zone.{Zone}
+use Rattle.door.specs.declared.zones.Zone.TheVariants.{Host, Page as PageZone, PlainScript, XrayScript}
+use Rattle.small_forms.specs.declared.page.Page.{Page}
+use Rattle.small_forms.specs.declared.script.Line.{Line}
 use Rattle.small_forms.specs.declared.userscript.Userscript.{Userscript}
+use Rattle.small_forms.specs.Pages.{IsPage, blocks_text, element_text}
+use Rattle.small_forms.specs.Scripts.{IsPageScript, IsUserscript}
+use Rattle.script_meaning.specs.Entries.{beginning, enters}
+use Rattle.script_meaning.specs.Intrinsics.{Setup}
+use Rattle.script_meaning.specs.Solo.{Fails}
 use Rattle.solo_model.specs.Closed.{is_plain}
-use Rattle.solo_model.specs.Meaning.{Setup}
+use Rattle.solo_model.specs.Lawful.{IsLawful, Piece, tasks_of}
+use Rattle.solo_model.specs.Solo.{Deed, IsSoloFrom, Show, deeds_of, shows_of}
 use Rattle.solo_model.specs.Things.{userscript}
 use Rattle.solo_model.specs.Truth.{IsGenuine}
-use Rattle.solo_model.proofs.Journals.{AreApart, idle-solo}
+use Rattle.solo_model.specs.View.{at_start, view_of}
+use Rattle.solo_model.proofs.Journals.{AreApart, solo-acts}
+use Rattle.solo_model.proofs.Solos.{leads-solo}
+use Rattle.small_scripts.specs.Spelling.{Spells}
+use Rattle.small_scripts.specs.Trees.{body_of}
+use Rattle.small_meaning.specs.Rows.{Fresh, Reads, beginning as small_beginning, enters as small_enters}
+use Rattle.small_meaning.specs.Shows.{AreFit, FitsEntry, MayRun, entries_in}
+use Rattle.small_meaning.proofs.Shown.{All, OfScript, entries_few, shown_fit, tasks_length, turns_enter}
 use Rattle.small_eval.specs.Idle.{AreIdle}
+use Rattle.small_eval.specs.Pieces.{after_blocks, after_script, block_writes, head_writes, pieces_from}
 use Rattle.small_eval.specs.Turns.{AreUserscripts}
-use Rattle.page_host.specs.Run.{AllActsAreSolo, log_grant, no_grants, setups_of}
+use Rattle.page_host.specs.Run.{AllActsAreSolo, input_of, log_grant, no_grants, setups_of}
 use Rattle.page_host.specs.Scripts.{AreScripts, texts_in}
 
 -- the text of each userscript is that of a userscript
@@ -42,6 +63,85 @@ apart : (address : List ℕ) → AreApart (setups_of address)
 unfolding among
 apart address j = among_none (nat_eq j.0 1) (record { zone = PageZone; grants = no_grants; address = address }) (record { zone = XrayScript; grants = log_grant; address = address }) refl refl
 
--- who waits has done what its own machine does
-pub all_solo : (address : List ℕ) (marks : List Mark) → IsGenuine marks → AreIdle (setups_of address) marks → AllActsAreSolo address marks
-all_solo address marks genuine idle = λ i other. idle-solo (setups_of address) i marks (apart address) genuine (idle i other)
+-- ---- what the scripts of a run are
+
+-- each of these texts is no longer than all of them in their elements
+texts_short : (texts : List (List ℕ)) (most : ℕ) → length (flat_map element_text texts) ≤ most → All (λ text. length text ≤ most) texts
+texts_short [] most h = tt
+texts_short (text ∷ texts) most h =
+    let whole = length-append (element_text text) (flat_map element_text texts) in
+    let opened = length-append (codes "<script>") (text ++ codes "</script>") in
+    let closed = length-append text (codes "</script>") in
+    (omega (arith, h, whole, opened, closed), texts_short texts most (omega (arith, h, whole)))
+
+-- so the scripts of a page are no longer than the page
+page_short : (bytes : List ℕ) (page : Page) → IsPage bytes page → All (λ text. length text ≤ 65536) page.scripts
+page_short bytes page h =
+    let elements = flat_map element_text page.scripts in
+    let last = length-append elements (codes "</body></html>") in
+    let blocks = length-append (blocks_text page.blocks) (elements ++ codes "</body></html>") in
+    let body = length-append (codes "</title></head><body>") (blocks_text page.blocks ++ (elements ++ codes "</body></html>")) in
+    let title = length-append page.title (codes "</title></head><body>" ++ (blocks_text page.blocks ++ (elements ++ codes "</body></html>"))) in
+    let head = length-append (codes "<html><head><title>") (page.title ++ (codes "</title></head><body>" ++ (blocks_text page.blocks ++ (elements ++ codes "</body></html>")))) in
+    texts_short page.scripts 65536 (omega (arith, h.short, ap length h.whole, last, blocks, body, title, head))
+
+scripts_short : (scripts : List Userscript) → AreScripts scripts → All (λ text. length text ≤ 65536) (texts_in scripts)
+scripts_short [] h = tt
+scripts_short (script ∷ scripts) h = (omega (arith, h.0.1.short), scripts_short scripts h.1)
+
+-- where texts and their spelling hold of each short text, they hold of these
+each : (P : List ℕ → Type 0) → ((text : List ℕ) → length text ≤ 65536 → P text) → (texts : List (List ℕ)) → All (λ text. length text ≤ 65536) texts → All P texts
+each P from [] h = tt
+each P from (text ∷ texts) h = (from text h.0, each P from texts h.1)
+
+pieces_each : (P : List ℕ → Type 0) (n : ℕ) (begun : List Request) (texts : List (List ℕ)) → All P texts → All (λ (piece : Piece). OfScript P piece.script) (pieces_from n begun texts)
+pieces_each P n begun [] h = (tt, tt)
+pieces_each P n begun (text ∷ texts) h = (h.0, pieces_each P (after_script n text) [] texts h.1)
+
+pieces_length : (n : ℕ) (begun : List Request) (texts : List (List ℕ)) → length (pieces_from n begun texts) ≡ length texts + 1
+pieces_length n begun [] = refl
+pieces_length n begun (text ∷ texts) = omega (arith, pieces_length (after_script n text) [] texts)
+
+-- ---- what each actor does
+
+-- what the laws of the small forms say
+pub record SmallLaws : Type 0 where
+  pub solos : (setup : Setup) (shows : List Show) (deeds : List Deed) → MayRun setup.zone setup.grants → AreFit setup.zone shows → entries_in shows ≤ 1000 → IsSoloFrom (small_enters setup) small_beginning shows deeds
+      → IsSoloFrom enters (beginning setup) shows deeds
+  pub page : (text : List ℕ) (lines : List Line) → IsPageScript text lines → length text ≤ 262144 → Spells text (body_of PageZone lines)
+  pub userscript : (text name : List ℕ) (lines : List Line) → IsUserscript text name lines → Spells text (body_of XrayScript lines)
+
+spelled : SmallLaws → (zone : Zone) (text : List ℕ) (lines : List Line) → length text ≤ 65536 → Reads zone text lines → Spells text (body_of zone lines)
+spelled laws PageZone text lines short reads = laws.page text lines reads (omega (arith, short))
+spelled laws XrayScript text lines short (name, reads) = laws.userscript text name lines reads
+spelled laws Host text lines short reads = absurd reads
+spelled laws PlainScript text lines short reads = absurd reads
+
+fits : SmallLaws → (zone : Zone) (text : List ℕ) → length text ≤ 65536 → FitsEntry zone (Script text)
+fits laws zone text short = (short, λ lines reads. spelled laws zone text lines short reads)
+
+may_run : (b : Bool) (s t : Setup) → MayRun s.zone s.grants → MayRun t.zone t.grants → MayRun (among b s t).zone (among b s t).grants
+unfolding among
+may_run true s t h k = h
+may_run false s t h k = k
+
+all_may_run : (address : List ℕ) (i : Actor) → MayRun (setups_of address i).zone (setups_of address i).grants
+unfolding among
+all_may_run address i = may_run (nat_eq i.0 1) (record { zone = PageZone; grants = no_grants; address = address }) (record { zone = XrayScript; grants = log_grant; address = address }) tt refl
+
+-- who waits in the end has done what its own machine does
+pub all_solo : SmallLaws → (address bytes : List ℕ) (page : Page) (scripts : List Userscript) (marks : List Mark) → IsPage bytes page → AreScripts scripts → length scripts ≤ 8
+    → IsLawful (input_of page (texts_in scripts)) marks → IsGenuine marks → AreIdle (setups_of address) marks → AllActsAreSolo address marks
+all_solo laws address bytes page scripts marks is_page are_scripts few lawful genuine idle = λ i other.
+    let setup = setups_of address i in
+    let P : List ℕ → Type 0 = λ text. FitsEntry setup.zone (Script text) in
+    let input = input_of page (texts_in scripts) in
+    let pieces = pieces_each P (after_blocks page.blocks) (head_writes page.title ++ block_writes page.blocks) page.scripts (each P (fits laws setup.zone) page.scripts (page_short bytes page is_page)) in
+    let starts = each P (fits laws setup.zone) (texts_in scripts) (scripts_short scripts are_scripts) in
+    let entries = turns_enter P input [] (tasks_of input) marks (record { pieces = pieces; starts = starts }) lawful in
+    let pieces_are = pieces_length (after_blocks page.blocks) (head_writes page.title ++ block_writes page.blocks) page.scripts in
+    let shown_few = entries_few i at_start marks in
+    let are_few : entries_in (shows_of (view_of i marks)) ≤ 1000 = omega (arith, shown_few, entries.few, tasks_length input, pieces_are, is_page.few, texts_few scripts 8 few) in
+    let fit = shown_fit setup.zone i at_start [] marks (inl refl) genuine entries.texts in
+    let small = leads-solo (small_enters setup) small_beginning 480 Fresh (λ m given. Fails) (view_of i marks) (idle i other).leads in
+    solo-acts (setups_of address) i marks (apart address) genuine (laws.solos setup (shows_of (view_of i marks)) (deeds_of (view_of i marks)) (all_may_run address i) fit are_few small)

@@ -14,6 +14,8 @@ use dom_tree::Tree;
 use door::Journal;
 use small_eval::{World, play as play_world};
 use small_forms::{Page, Userscript};
+use small_meaning::small_solos_are_solos;
+use small_scripts::{page_scripts_spell_their_lines, userscripts_spell_their_lines};
 use std::alloc::Global;
 
 /// A run that was played to its end.
@@ -52,6 +54,9 @@ pub fn play(alloc: Global, page: &Page, scripts: &[Userscript]) -> Mem<Played>
     ensures acts { IfOk result (λ played. (address : List ℕ) → AllActsAreSolo address played.journal.marks) }
     ensures document { IfOk result (λ played. played.tree ≡ (stage_of played.journal.marks).nodes) }
 {
+    small_solos_are_solos();
+    page_scripts_spell_their_lines();
+    userscripts_spell_their_lines();
     let texts = texts_in(alloc, scripts)?;
     let World { journal, tree, .. } = play_world(alloc, page, texts.as_slice())?;
     Ok(Played { journal, tree })

@@ -22,11 +22,12 @@ use Rattle.door.specs.Changes.{create_refusal, created, insert_refusal, inserted
 use Rattle.solo_model.specs.Closed.{Setups}
 use Rattle.solo_model.specs.Lawful.{AreBuilds, is_node, own_nodes, placed, placed_request}
 use Rattle.solo_model.specs.Stage.{Stage, built, stage_from, stage_of, start, turned}
-use Rattle.solo_model.specs.Stands.{Stands, idle}
+use Rattle.small_meaning.specs.Rows.{beginning}
+use Rattle.small_meaning.specs.Stands.{Waits}
 use Rattle.solo_model.specs.Truth.{IsGenuine}
 use Rattle.solo_model.specs.View.{is_actor, met_of, seen_of}
 use Rattle.solo_model.proofs.Journals.{builds-then, is_other, stage-more, stage_from-append}
-use Rattle.solo_model.proofs.Steps.{stands-past}
+use Rattle.small_meaning.proofs.Standing.{stands-past}
 use Rattle.small_eval.specs.declared.world.World.{World}
 use Rattle.small_eval.specs.Builds.{HasBuilt, HasRoom, IsMaking, IsRooted, appended, unless_told}
 use Rattle.small_eval.specs.Follows.{Adds}
@@ -42,8 +43,8 @@ use Rattle.small_eval.proofs.Own.{host_makes, long-appended, own_known, own_late
 -- a mark that nobody but the host sees
 pub idle_past : (setups : Setups) (old new : Record) (mark : Mark) → Adds old new (mark ∷ []) → ((i : Actor) → i ≢ the_host → seen_of i (met_of i old.marks) mark ≡ []) → AreIdle setups old.marks → AreIdle setups new.marks
 idle_past setups old new mark e unseen h i guest =
-    let P : Record → Type 0 = λ r. Stands (setups i) i r.marks idle in
-    subst P (sym e) (stands-past (setups i) i old.marks mark idle (unseen i guest) (h i guest))
+    let P : Record → Type 0 = λ r. Waits (setups i) i r.marks in
+    subst P (sym e) (stands-past (setups i) i old.marks mark beginning (unseen i guest) (h i guest))
 
 are_one : (before : List Mark) (f : Forest) (request : Request) → f ≡ (stage_of before).nodes → AreBuilds before (request ∷ []) (Build (placed_request f request) ∷ [])
 unfolding AreBuilds

@@ -13,12 +13,14 @@ use Rattle.small_forms.specs.declared.script.Line.{Line}
 use Rattle.solo_model.specs.View.{is_actor}
 use Rattle.solo_model.specs.Closed.{Setups}
 use Rattle.solo_model.specs.Lawful.{AreAsksOf, IsEntry}
-use Rattle.solo_model.specs.Solo.{Tells, Fails}
-use Rattle.solo_model.specs.Meaning.{Fresh, Cont, Setup, FUEL, Reads, leave, lines_row, outcome_of}
-use Rattle.solo_model.specs.View.{Leaves}
-use Rattle.solo_model.specs.Stands.{Stands, idle}
-use Rattle.solo_model.proofs.Steps.{stands-entered, stands-left, stands-past}
-use Rattle.solo_model.proofs.Journals.{is_other, stands-others}
+use Rattle.script_meaning.specs.Solo.{Tells, Fails, Point, Leaves}
+use Rattle.script_meaning.specs.Intrinsics.{Setup}
+use Rattle.small_meaning.specs.Rows.{Bare, Fresh, Cont, Reads, leave, lines_row, outcome_of, beginning}
+use Rattle.script_meaning.specs.Entries.{FUEL}
+use Rattle.small_meaning.specs.Stands.{Stands, Waits}
+use Rattle.small_meaning.proofs.Standing.{stands-entered, stands-left, stands-past}
+use Rattle.solo_model.proofs.Journals.{is_other}
+use Rattle.small_meaning.proofs.Standing.{stands-others}
 use Rattle.small_eval.specs.declared.world.World.{World}
 use Rattle.small_eval.specs.declared.exit.Exit.{Exit}
 use Rattle.small_eval.specs.declared.exit.Exit.TheVariants.{Throw, Halt, NoMemory}
@@ -94,9 +96,9 @@ idle_after setups i zone text lines ms asked ended outcome left guest z reads go
     not_host : i ≢ the_host
     not_host e = guest (ap (λ (a : Actor). a.0) e)
 
-    by : (b : Bool) → is_actor j i ≡ b → Stands (setups j) j ((entered ++ asked) ++ Leave i outcome (FUEL - left) ∷ []) idle
+    by : (b : Bool) → is_actor j i ≡ b → Waits (setups j) j ((entered ++ asked) ++ Leave i outcome (FUEL - left) ∷ [])
     by true e =
-        let P : Actor → Type 0 = λ a. Stands (setups a) a ((entered ++ asked) ++ Leave i outcome (FUEL - left) ∷ []) idle in
+        let P : Actor → Type 0 = λ a. Waits (setups a) a ((entered ++ asked) ++ Leave i outcome (FUEL - left) ∷ []) in
         let s = setups i in
         let c : Cont = leave 480 Fresh (λ m given. Fails) in
         let ReadsAt : Zone → Type 0 = λ x. Reads x text lines in
@@ -107,10 +109,11 @@ idle_after setups i zone text lines ms asked ended outcome left guest z reads go
         subst P (sym (same_of e)) (stands-left s i (entered ++ asked) outcome (FUEL - left) 480 Fresh (λ m given. Fails) (subst LeftBy (sym o) ran))
     by false e =
         let s = setups j in
+        let waiting : Point Bare = beginning in
         let hidden : is_actor i j ≡ false = is_other i j (λ f. other_of e (sym f)) in
-        let first = stands-past s j ms (Enter i (Script text)) idle (rw hidden refl) (all j apart) in
-        let then = stands-others s j i entered asked idle (λ f. other_of e (sym f)) own first in
-        stands-past s j (entered ++ asked) (Leave i outcome (FUEL - left)) idle (rw hidden refl) then
+        let first = stands-past s j ms (Enter i (Script text)) waiting (rw hidden refl) (all j apart) in
+        let then = stands-others s j i entered asked waiting (λ f. other_of e (sym f)) own first in
+        stands-past s j (entered ++ asked) (Leave i outcome (FUEL - left)) waiting (rw hidden refl) then
 
 -- what is said where the last mark was added
 pub on_left : {E : Type 0} (r : Result (Unit {0}) E) (P : World → Type 0) (old new : World) (mark : Mark) → OnOk r (new ≡ record old { journal = record old.journal { marks = old.journal.marks ++ mark ∷ [] } })

@@ -17,14 +17,15 @@ use Rattle.small_forms.specs.declared.script.Sum.{Sum}
 use Rattle.small_forms.specs.declared.script.Line.{Line}
 use Rattle.small_forms.specs.Scripts.{AreLines, IsSum, sum_of}
 use Rattle.solo_model.specs.Things.{the_window}
-use Rattle.solo_model.specs.declared.prim.Prim.{Prim}
-use Rattle.solo_model.specs.declared.prim.Prim.TheVariants.{Number, Str}
+use Rattle.small_meaning.specs.declared.prim.Prim.{Prim}
+use Rattle.small_meaning.specs.declared.prim.Prim.TheVariants.{Number, Str}
 use Rattle.door.specs.declared.values.Actor.{Actor}
 use Rattle.door.specs.declared.marks.Mark.{Mark}
 use Rattle.small_forms.specs.declared.script.Part.{Part}
-use Rattle.solo_model.specs.Solo.{Tree}
-use Rattle.solo_model.specs.Meaning.{Addition, Bare, Cont, Gives, Lone, Next, Plus, Setup, Throws, added, addition_row, argument_units, ask, bind, call_units, charge, follow, joined_row, line_row, lines_row, log_member, log_row, logged_row, part_row, plus_row, sum_row, text_of, text_units, with_nothing, written_row}
-use Rattle.solo_model.specs.Stands.{Stands}
+use Rattle.script_meaning.specs.Solo.{Tree}
+use Rattle.script_meaning.specs.Intrinsics.{Setup}
+use Rattle.small_meaning.specs.Rows.{Addition, Bare, Cont, Gives, Lone, Next, Plus, Throws, added, addition_row, argument_units, ask, bind, call_units, charge, follow, joined_row, line_row, lines_row, log_member, log_row, logged_row, part_row, plus_row, sum_row, text_of, text_units, with_nothing, written_row}
+use Rattle.small_meaning.specs.Stands.{Stands}
 use Rattle.small_eval.specs.Follows.{AfterLine, AfterUnit, Ends, IsSmall, IsText}
 use Rattle.small_eval.specs.declared.exit.Exit.{Exit}
 use Rattle.small_eval.specs.declared.exit.Exit.TheVariants.{Throw, Halt, NoMemory}

@@ -10,9 +10,10 @@ use Rattle.door.specs.declared.values.Value.{Value}
 use Rattle.door.specs.declared.requests.Request.TheVariants.{Native}
 use Rattle.door.specs.declared.requests.Answer.TheVariants.{Value as ValueAnswer}
 use Rattle.solo_model.specs.Things.{the_document, the_window}
-use Rattle.solo_model.specs.Solo.{Tree}
-use Rattle.solo_model.specs.Meaning.{Bare, Cont, Setup, with_document}
-use Rattle.solo_model.specs.Stands.{Stands}
+use Rattle.script_meaning.specs.Solo.{Tree}
+use Rattle.script_meaning.specs.Intrinsics.{Setup}
+use Rattle.small_meaning.specs.Rows.{Bare, Cont, with_document}
+use Rattle.small_meaning.specs.Stands.{Stands}
 use Rattle.small_eval.specs.Follows.{GoesOn, HasMet, MeetsNothing, document_for}
 use Rattle.small_eval.specs.declared.exit.Exit.{Exit}
 use Rattle.small_eval.specs.declared.exit.Exit.TheVariants.{Throw, Halt, NoMemory}

@@ -15,7 +15,7 @@ use Rattle.small_forms.specs.Scripts.{IsPageScript, IsUserscript}
 use Rattle.small_forms.specs.Pages.{ArePageScripts}
 use Rattle.solo_model.specs.Lawful.{AreBuilds, AreTurns, Input, IsScripted, IsTurn, numbered, tasks_of}
 use Rattle.solo_model.specs.Closed.{Setups}
-use Rattle.solo_model.proofs.Steps.{stands-start}
+use Rattle.small_meaning.proofs.Standing.{stands-start}
 use Rattle.small_eval.specs.Idle.{AreIdle}
 use Rattle.solo_model.proofs.Journals.{builds-then, turn-alone, turns-then}
 use Rattle.small_eval.specs.declared.world.World.{World}

@@ -5,13 +5,14 @@ use Rattle.door.specs.Record.{Record}
 use Rattle.door.specs.declared.values.Actor.{Actor}
 use Rattle.door.specs.declared.values.Thing.{Thing}
 use Rattle.door.specs.declared.marks.Mark.{Mark}
-use Rattle.solo_model.specs.declared.prim.Prim.{Prim}
-use Rattle.solo_model.specs.declared.prim.Prim.TheVariants.{Number, Str}
+use Rattle.small_meaning.specs.declared.prim.Prim.{Prim}
+use Rattle.small_meaning.specs.declared.prim.Prim.TheVariants.{Number, Str}
 use Rattle.solo_model.specs.Things.{the_document}
 use Rattle.solo_model.specs.View.{is_thing, met_of, named}
-use Rattle.solo_model.specs.Solo.{Tree}
-use Rattle.solo_model.specs.Meaning.{Bare, Cont, Gives, Next, Throws, Halts, Setup}
-use Rattle.solo_model.specs.Stands.{Stands}
+use Rattle.script_meaning.specs.Solo.{Tree}
+use Rattle.script_meaning.specs.Intrinsics.{Setup}
+use Rattle.small_meaning.specs.Rows.{Bare, Cont, Gives, Next, Throws, Halts}
+use Rattle.small_meaning.specs.Stands.{Stands}
 use Rattle.small_eval.specs.declared.exit.Exit.{Exit}
 use Rattle.small_eval.specs.declared.exit.Exit.TheVariants.{Throw, Halt, NoMemory}
 

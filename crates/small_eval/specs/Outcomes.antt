@@ -1,6 +1,6 @@
 -- How the lines of a script ended, as its machine sees it.
 use Rattle.std.specs.Prelude.{Result, Ok, Err}
-use Rattle.solo_model.specs.Meaning.{Done, Next, Throws, Halts}
+use Rattle.small_meaning.specs.Rows.{Done, Next, Throws, Halts}
 use Rattle.small_eval.specs.declared.exit.Exit.{Exit}
 use Rattle.small_eval.specs.declared.exit.Exit.TheVariants.{Throw, Halt, NoMemory}
 

@@ -11,9 +11,10 @@ ghost use Rattle.solo_model.specs.Things.{the_window};
 ghost use Rattle.small_eval.specs.Heads.{IsHeaded};
 ghost use Rattle.door.specs.declared.marks.Mark.TheVariants.{Ask as AskMark};
 ghost use Rattle.solo_model.specs.View.{meets_answer, met_of, named_answer, named_request};
-ghost use Rattle.solo_model.specs.Solo.{Tree, Asks};
-ghost use Rattle.solo_model.specs.Meaning.{Bare, Cont, Setup, ask, document_row, log_member, with_nothing, with_text};
-ghost use Rattle.solo_model.specs.Stands.{Stands};
+ghost use Rattle.script_meaning.specs.Solo.{Tree, Asks};
+ghost use Rattle.script_meaning.specs.Intrinsics.{Setup};
+ghost use Rattle.small_meaning.specs.Rows.{Bare, Cont, ask, document_row, log_member, with_nothing, with_text};
+ghost use Rattle.small_meaning.specs.Stands.{Stands};
 ghost use Rattle.small_eval.specs.Follows.{AfterUnit, AfterText, GoesOn, HasMet, MeetsNothing, document_for};
 ghost use Rattle.small_eval.specs.Worlds.{IsReady, IsSound, Keeps};
 

@@ -4,9 +4,9 @@ ghost use Rattle.std.specs.Prelude.{◌≡◌, ◌≢◌, ◌≤◌, ◌<◌, �
 ghost use Rattle.door.specs.declared.marks.Mark.{Mark as AnyMark};
 ghost use Rattle.small_forms.specs.declared.script.Line.{Line as AnyLine};
 ghost use Rattle.solo_model.specs.Closed.{Setups};
-ghost use Rattle.solo_model.specs.Errors.{error_text};
+ghost use Rattle.small_meaning.specs.Errors.{error_text};
 ghost use Rattle.solo_model.specs.Lawful.{IsEntry};
-ghost use Rattle.solo_model.specs.Meaning.{Reads, outcome_of};
+ghost use Rattle.small_meaning.specs.Rows.{Reads, outcome_of};
 ghost use Rattle.small_eval.specs.Follows.{Adds, GoesOn};
 ghost use Rattle.small_eval.specs.Heads.{IsHeaded};
 ghost use Rattle.small_eval.specs.Idle.{AreIdle};

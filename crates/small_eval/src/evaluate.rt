@@ -5,8 +5,9 @@ ghost use Rattle.base_text.specs.Scalars.{utf8_len};
 ghost use Rattle.door.specs.declared.marks.Mark.{Mark};
 ghost use Rattle.door.specs.declared.values.Actor.{Actor as AnyActor};
 ghost use Rattle.small_forms.specs.Scripts.{AreLines, IsSum, sum_of};
-ghost use Rattle.solo_model.specs.Meaning.{Cont, Lone, Setup, added, addition_row, argument_units, call_units, joined_row, line_row, lines_row, log_row, part_row, plus_row, text_of, text_units, title_row};
-ghost use Rattle.solo_model.specs.Stands.{Stands};
+ghost use Rattle.script_meaning.specs.Intrinsics.{Setup};
+ghost use Rattle.small_meaning.specs.Rows.{Cont, Lone, added, addition_row, argument_units, call_units, joined_row, line_row, lines_row, log_row, part_row, plus_row, text_of, text_units, title_row};
+ghost use Rattle.small_meaning.specs.Stands.{Stands};
 ghost use Rattle.small_eval.specs.Follows.{After, AfterLine, GoesOn, HasMet, IsSmall, IsText, MeetsNothing};
 ghost use Rattle.small_eval.specs.Heads.{IsHeaded};
 ghost use Rattle.small_eval.specs.Worlds.{IsSound, Keeps};
@@ -17,7 +18,7 @@ use crate::world::World;
 use base_text::{Mem, Text, TextFault};
 use door::{Actor, ErrorKind, Zone};
 use small_forms::{Line, Part, Sum};
-use solo_model::Prim;
+use small_meaning::Prim;
 use std::alloc::Global;
 
 /// Evaluates a part of a sum.

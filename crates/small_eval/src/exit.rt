@@ -3,9 +3,10 @@
 ghost use Rattle.std.specs.Prelude.{◌≡◌, ◌≤◌, ◌+◌, List, ℕ, OnOk};
 ghost use Rattle.door.specs.declared.marks.Mark.{Mark};
 ghost use Rattle.door.specs.declared.values.Actor.{Actor};
-ghost use Rattle.solo_model.specs.Solo.{Tree};
-ghost use Rattle.solo_model.specs.Meaning.{Bare, Cont, Setup, charge};
-ghost use Rattle.solo_model.specs.Stands.{Stands};
+ghost use Rattle.script_meaning.specs.Solo.{Tree};
+ghost use Rattle.script_meaning.specs.Intrinsics.{Setup};
+ghost use Rattle.small_meaning.specs.Rows.{Bare, Cont, charge};
+ghost use Rattle.small_meaning.specs.Stands.{Stands};
 ghost use Rattle.small_eval.specs.Follows.{AfterUnit};
 
 use base_text::NoMemory;
@@ -34,7 +35,7 @@ impl From<NoMemory> for Exit {
 }
 
 /// Charges units of fuel. A charge above what is left uses all of it.
-#[tactic(auto, unfolding(solo_model::specs::Meaning::charge))]
+#[tactic(auto, unfolding(small_meaning::specs::Rows::charge))]
 pub fn charge(fuel: &mut u32, units: u32) -> Result<(), Exit>
     ensures own { (s : Setup) (i : Actor) (marks : List Mark) (k : ℕ → Tree Bare) (c : Cont) → Stands s i marks (charge units k c fuel.old) → AfterUnit s i marks fuel.new k c result }
     ensures fuel { fuel.new ≤ fuel.old }

@@ -1,28 +1,21 @@
 -- How a journal grows, mark by mark and turn by turn.
-use Rattle.std.proofs.Common.{◌≡◌, ◌≢◌, ◌∙◌, ap, sym, refl, subst, not, ℕ, ◌+◌, Bool, true, false, ◌&&◌, ◌||◌, List, [], ◌∷◌, ◌++◌, append_assoc, arith, nat_eq, if◌then◌else◌, IsTrue, length}
-use Prim.Native.Nat.{zero, suc}
+use Rattle.std.proofs.Common.{◌≡◌, ◌≢◌, ◌∙◌, ap, sym, refl, subst, not, ℕ, false, List, [], ◌∷◌, ◌++◌, append_assoc, arith, nat_eq}
 use Rattle.std.proofs.lemmas.Bool.Decides.{nat_tests}
 use Rattle.std.proofs.lemmas.List.{append-nil}
 use Rattle.std.proofs.lemmas.List.Sums.{take_while-cons}
 use Rattle.door.specs.declared.values.Actor.{Actor}
-use Rattle.door.specs.declared.zones.Zone.{Zone}
 use Rattle.door.specs.declared.requests.Request.{Request}
 use Rattle.door.specs.declared.requests.Request.TheVariants.{Native, Peek, PeekKeys, Reach}
-use Rattle.door.specs.declared.requests.Answer.{Answer}
-use Rattle.door.specs.declared.marks.Entry.{Entry}
 use Rattle.door.specs.declared.marks.Task.{Task}
 use Rattle.door.specs.declared.marks.Mark.{Mark}
 use Rattle.door.specs.declared.marks.Mark.TheVariants.{Turn, Build, Enter, Ask, Dispatch, Back, Leave, Serve, Served}
-use Rattle.solo_model.specs.View.{Met, is_actor, met_of, seen_of, view_of}
+use Rattle.solo_model.specs.View.{Met, is_actor, met_of, view_of}
 use Rattle.solo_model.specs.Stage.{Stage, after, stage_from, stage_of, start}
 use Rattle.solo_model.specs.Truth.{IsGenuine, IsGenuineAfter, IsTrueAfter}
-use Rattle.solo_model.specs.Solo.{Tree, Deed, IsSoloFrom, beginning, deeds_of, shows_of}
-use Rattle.solo_model.specs.Meaning.{Bare, Fresh, Setup, enters}
-use Rattle.solo_model.specs.Closed.{ActsAreSolo, AreSolo, Setups, closed_deeds, closed_front, closed_view, is_plain, opens, reach_in}
+use Rattle.script_meaning.specs.Entries.{beginning, enters}
+use Rattle.solo_model.specs.Solo.{Deed, IsSoloFrom, deeds_of, shows_of}
+use Rattle.solo_model.specs.Closed.{ActsAreSolo, Setups, closed_front, is_plain, opens, reach_in}
 use Rattle.solo_model.specs.Lawful.{AreAsksOf, AreBuilds, AreTurns, Input, placed_request}
-use Rattle.solo_model.specs.Stands.{Stands, idle}
-use Rattle.solo_model.proofs.Steps.{stands-past}
-use Rattle.solo_model.proofs.Solos.{leads-solo}
 
 -- the marks of one part, and then of another
 pub stage_from-append : (s : Stage) (xs ys : List Mark) → stage_from s (xs ++ ys) ≡ stage_from (stage_from s xs) ys
@@ -55,24 +48,6 @@ is_other i j apart = differs i.0 j.0 (λ e. apart (same_actor e))
     differs : (n m : ℕ) → (n ≡ m → ⊥) → nat_eq n m ≡ false
     differs n m h = grind (arith, nat_tests)
 
--- the requests of one actor are nothing to another
-pub stands-others : (setup : Setup) (i j : Actor) (marks asks : List Mark) (t : Tree Bare) → j ≢ i → AreAsksOf j asks → Stands setup i marks t → Stands setup i (marks ++ asks) t
-unfolding AreAsksOf
-stands-others setup i j marks [] t apart own s = let P : List Mark → Type 0 = λ xs. Stands setup i xs t in subst P (sym (append-nil marks)) s
-stands-others setup i j marks (Ask k request given ∷ asks) t apart own s =
-    let P : List Mark → Type 0 = λ xs. Stands setup i xs t in
-    let other : is_actor k i ≡ false = is_other k i (λ e. apart (sym own.0 ∙ e)) in
-    subst P (append_assoc marks (Ask k request given ∷ []) asks)
-    (stands-others setup i j (marks ++ Ask k request given ∷ []) asks t apart own.1 (stands-past setup i marks (Ask k request given) t (rw other refl) s))
-stands-others setup i j marks (Turn task ∷ asks) t apart own s = absurd own
-stands-others setup i j marks (Build request ∷ asks) t apart own s = absurd own
-stands-others setup i j marks (Enter k entry ∷ asks) t apart own s = absurd own
-stands-others setup i j marks (Dispatch k event target ∷ asks) t apart own s = absurd own
-stands-others setup i j marks (Back k given ∷ asks) t apart own s = absurd own
-stands-others setup i j marks (Leave k outcome units ∷ asks) t apart own s = absurd own
-stands-others setup i j marks (Serve k owner value operation ∷ asks) t apart own s = absurd own
-stands-others setup i j marks (Served k given ∷ asks) t apart own s = absurd own
-
 -- no script runs among the page's own
 abbrev pub AreApart : Setups → Type 0
 AreApart setups = (j : Actor) → is_plain (setups j).zone ≡ false
@@ -101,15 +76,16 @@ none_reached : (setups : Setups) (i : Actor) (met : Met) (before marks : List Ma
 none_reached setups i met before [] apart h = refl
 none_reached setups i met before (mark ∷ marks) apart h = rw (unopened setups i before mark apart h.0) (none_reached setups i met (before ++ mark ∷ []) marks apart h.1)
 
--- where its machine waits in the end, an actor has done what its own machine does
-pub idle-solo : (setups : Setups) (i : Actor) (marks : List Mark) → AreApart setups → IsGenuine marks → Stands (setups i) i marks idle → ActsAreSolo setups i marks
-idle-solo setups i marks apart h s =
+-- what an actor does over a whole journal by its own machine, it does while it is closed
+pub solo-acts : (setups : Setups) (i : Actor) (marks : List Mark) → AreApart setups → IsGenuine marks → IsSoloFrom enters (beginning (setups i)) (shows_of (view_of i marks)) (deeds_of (view_of i marks))
+    → ActsAreSolo setups i marks
+solo-acts setups i marks apart h solo =
     let whole = all_closed setups i [] marks apart h in
-    let Shown : List Mark → Type 0 = λ front. IsSoloFrom (enters (setups i)) (beginning Fresh) (shows_of (view_of i front)) (deeds_of (view_of i front) ++ reach_in setups i (met_of i front) marks) in
-    let Done : List Deed → Type 0 = λ deeds. IsSoloFrom (enters (setups i)) (beginning Fresh) (shows_of (view_of i marks)) deeds in
+    let Shown : List Mark → Type 0 = λ front. IsSoloFrom enters (beginning (setups i)) (shows_of (view_of i front)) (deeds_of (view_of i front) ++ reach_in setups i (met_of i front) marks) in
+    let Done : List Deed → Type 0 = λ deeds. IsSoloFrom enters (beginning (setups i)) (shows_of (view_of i marks)) deeds in
     let none = none_reached setups i (met_of i marks) [] marks apart h in
     let plain : deeds_of (view_of i marks) ++ reach_in setups i (met_of i marks) marks ≡ deeds_of (view_of i marks) = ap (λ reach. deeds_of (view_of i marks) ++ reach) none ∙ append-nil (deeds_of (view_of i marks)) in
-    subst Shown (sym whole) (subst Done (sym plain) (leads-solo (enters (setups i)) (beginning Fresh) 480 Fresh (λ m given. _) (view_of i marks) s.leads))
+    subst Shown (sym whole) (subst Done (sym plain) solo)
 
 -- the turns of tasks, and then of others
 pub turns-then : (input : Input) (before : List Mark) (tasks others : List Task) (xs ys : List Mark) → AreTurns input before tasks xs → AreTurns input (before ++ xs) others ys → AreTurns input before (tasks ++ others) (xs ++ ys)

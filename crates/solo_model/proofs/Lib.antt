@@ -1,5 +1,4 @@
 pub mod OneWay
-pub mod Busy
 pub mod Steps
 pub mod Solos
 pub mod Journals

@@ -1,29 +1,15 @@
 -- A machine of its own does the same when it is shown the same.
-use Rattle.std.proofs.Common.{◌≡◌, ◌∙◌, ap, sym, refl, subst, ℕ, ◌+◌, List, [], ◌∷◌, ◌++◌, take, arith}
+use Rattle.std.proofs.Common.{◌≡◌, ◌∙◌, ap, sym, refl, subst, ℕ, List, [], ◌∷◌, take}
 use Prim.Native.Nat.{zero, suc}
 use Rattle.door.specs.declared.requests.Answer.{Answer}
 use Rattle.door.specs.declared.requests.Request.{Request}
 use Rattle.door.specs.declared.marks.Entry.{Entry}
-use Rattle.solo_model.specs.View.{Act}
-use Rattle.solo_model.specs.Solo.{Tree, Asks, Tells, Awaits, Fails, Entering, Show, Enters, Answers, Backs, Deed, Requests, Says, First, IsSoloFrom}
+use Rattle.script_meaning.specs.Solo.{Act, Tree, Asks, Tells, Fails, Does, Awaits, Entering}
+use Rattle.solo_model.specs.Solo.{Show, Enters, Answers, Backs, Deed, Requests, Says, IsSoloFrom}
 
 -- an entry goes on in one way
 abbrev pub OneWay : {M : Type 0} → Entering M → Type 0
 OneWay {M} enters = (entry : Entry) (levels : ℕ) (m : M) (back : M → Answer → Tree M) (t u : Tree M) → enters entry levels m back t → enters entry levels m back u → t ≡ u
-
--- a deed comes before it waits, and so it is after each answer and whatever comes back
-abbrev pub Busy : {M : Type 0} → Tree M → Type 0
-Busy (Asks request next) = (given : Answer) → Busy (next given)
-Busy {M} (Tells act levels m back) = (n : M) (given : Answer) → Busy (back n given)
-Busy (Awaits levels m back) = ⊥
-Busy Fails = Unit {0}
-
-abbrev pub BusyBack : {M : Type 0} → (M → Answer → Tree M) → Type 0
-BusyBack {M} back = (m : M) (given : Answer) → Busy (back m given)
-
--- an entry does something
-abbrev pub Starts : {M : Type 0} → Entering M → Type 0
-Starts {M} enters = (entry : Entry) (levels : ℕ) (m : M) (back : M → Answer → Tree M) (t : Tree M) → BusyBack back → enters entry levels m back t → Busy t
 
 no_take : {A : Type 0} {B : Type 0} (k : ℕ) (x : A) (xs : List A) → [] ≡ take (suc k) (x ∷ xs) → B
 no_take k x xs e = absurd cc
@@ -39,14 +25,14 @@ both_first : (k : ℕ) (deed : Deed) (xs ys more others : List Deed) → xs ≡ 
 both_first k deed xs ys more others e f rest = rw (e, f) (ap (λ ds. deed ∷ ds) rest)
 
 -- whatever is shown, the first deed is the tree's own
-first_asked : {M : Type 0} (enters : Entering M) (request : Request) (next : Answer → Tree M) (shows : List Show) (deeds : List Deed) → IsSoloFrom enters (Asks request next) shows deeds → (more : List Deed) × (deeds ≡ Requests request ∷ more)
+first_asked : {M : Type 0} (enters : Entering M) (request : Request) (next : Answer → Tree M) (shows : List Show) (deeds : List Deed) → IsSoloFrom enters (Does (Asks request next)) shows deeds → (more : List Deed) × (deeds ≡ Requests request ∷ more)
 unfolding IsSoloFrom
 first_asked enters request next [] deeds (more, e, _) = (more, e)
 first_asked enters request next (Answers s ∷ shows) deeds (more, e, _) = (more, e)
 first_asked enters request next (Enters s ∷ shows) deeds a = absurd a
 first_asked enters request next (Backs s ∷ shows) deeds a = absurd a
 
-first_told : {M : Type 0} (enters : Entering M) (act : Act) (levels : ℕ) (m : M) (back : M → Answer → Tree M) (shows : List Show) (deeds : List Deed) → IsSoloFrom enters (Tells act levels m back) shows deeds → (more : List Deed) × (deeds ≡ Says act ∷ more)
+first_told : {M : Type 0} (enters : Entering M) (act : Act) (levels : ℕ) (m : M) (back : M → Answer → Tree M) (shows : List Show) (deeds : List Deed) → IsSoloFrom enters (Does (Tells act levels m back)) shows deeds → (more : List Deed) × (deeds ≡ Says act ∷ more)
 unfolding IsSoloFrom
 first_told enters act levels m back [] deeds (more, e, _) = (more, e)
 first_told enters act levels m back (Answers s ∷ shows) deeds a = absurd a
@@ -55,41 +41,41 @@ first_told enters act levels m back (Backs s ∷ shows) deeds (more, e, _) = (mo
 
 -- the law for what is left after a show
 abbrev Rest : {M : Type 0} → Entering M → List Show → Type 0
-Rest {M} enters shows = (k : ℕ) (t : Tree M) (others : List Show) (deeds more : List Deed) → Busy t → IsSoloFrom enters t shows deeds → IsSoloFrom enters t others more → take k shows ≡ take k others → take (suc k) deeds ≡ take (suc k) more
+Rest {M} enters shows = (k : ℕ) (t : Tree M) (others : List Show) (deeds more : List Deed) → IsSoloFrom enters (Does t) shows deeds → IsSoloFrom enters (Does t) others more → take k shows ≡ take k others → take (suc k) deeds ≡ take (suc k) more
 
 -- one show, the same for both
-asked_once : {M : Type 0} (enters : Entering M) (k : ℕ) (request : Request) (next : Answer → Tree M) (s : Show) (shows others : List Show) (deeds more : List Deed) → Busy (Asks request next) → Rest enters shows
-    → IsSoloFrom enters (Asks request next) (s ∷ shows) deeds → IsSoloFrom enters (Asks request next) (s ∷ others) more → take k shows ≡ take k others → take (suc (suc k)) deeds ≡ take (suc (suc k)) more
+asked_once : {M : Type 0} (enters : Entering M) (k : ℕ) (request : Request) (next : Answer → Tree M) (s : Show) (shows others : List Show) (deeds more : List Deed) → Rest enters shows
+    → IsSoloFrom enters (Does (Asks request next)) (s ∷ shows) deeds → IsSoloFrom enters (Does (Asks request next)) (s ∷ others) more → take k shows ≡ take k others → take (suc (suc k)) deeds ≡ take (suc (suc k)) more
 unfolding IsSoloFrom
-asked_once enters k request next (Answers s) shows others deeds more busy rest (d, p, a) (m, q, b) e = both_first (suc k) (Requests request) deeds more d m p q (rest k (next s) others d m (busy s) a b e)
-asked_once enters k request next (Enters s) shows others deeds more busy rest a b e = absurd a
-asked_once enters k request next (Backs s) shows others deeds more busy rest a b e = absurd a
+asked_once enters k request next (Answers s) shows others deeds more rest (d, p, a) (m, q, b) e = both_first (suc k) (Requests request) deeds more d m p q (rest k (next s) others d m a b e)
+asked_once enters k request next (Enters s) shows others deeds more rest a b e = absurd a
+asked_once enters k request next (Backs s) shows others deeds more rest a b e = absurd a
 
-told_once : {M : Type 0} (enters : Entering M) → OneWay enters → Starts enters → (k : ℕ) (act : Act) (levels : ℕ) (m : M) (back : M → Answer → Tree M) (s : Show) (shows others : List Show) (deeds more : List Deed) → BusyBack back → Rest enters shows
-    → IsSoloFrom enters (Tells act levels m back) (s ∷ shows) deeds → IsSoloFrom enters (Tells act levels m back) (s ∷ others) more → take k shows ≡ take k others → take (suc (suc k)) deeds ≡ take (suc (suc k)) more
+told_once : {M : Type 0} (enters : Entering M) → OneWay enters → (k : ℕ) (act : Act) (levels : ℕ) (m : M) (back : M → Answer → Tree M) (s : Show) (shows others : List Show) (deeds more : List Deed) → Rest enters shows
+    → IsSoloFrom enters (Does (Tells act levels m back)) (s ∷ shows) deeds → IsSoloFrom enters (Does (Tells act levels m back)) (s ∷ others) more → take k shows ≡ take k others → take (suc (suc k)) deeds ≡ take (suc (suc k)) more
 unfolding IsSoloFrom
-told_once {M} enters one starts k act levels n back (Enters s) shows others deeds more busy rest (d, p, (t, entered, a)) (m, q, (u, also, b)) e =
-    let P : Tree M → Type 0 = λ tree. IsSoloFrom enters tree others m in
+told_once {M} enters one k act levels n back (Enters s) shows others deeds more rest (d, p, (t, entered, a)) (m, q, (u, also, b)) e =
+    let P : Tree M → Type 0 = λ tree. IsSoloFrom enters (Does tree) others m in
     let at_t = subst P (sym (one s levels n back t u entered also)) b in
-    both_first (suc k) (Says act) deeds more d m p q (rest k t others d m (starts s levels n back t busy entered) a at_t e)
-told_once enters one starts k act levels n back (Backs s) shows others deeds more busy rest (d, p, a) (m, q, b) e = both_first (suc k) (Says act) deeds more d m p q (rest k (back n s) others d m (busy n s) a b e)
-told_once enters one starts k act levels n back (Answers s) shows others deeds more busy rest a b e = absurd a
+    both_first (suc k) (Says act) deeds more d m p q (rest k t others d m a at_t e)
+told_once enters one k act levels n back (Backs s) shows others deeds more rest (d, p, a) (m, q, b) e = both_first (suc k) (Says act) deeds more d m p q (rest k (back n s) others d m a b e)
+told_once enters one k act levels n back (Answers s) shows others deeds more rest a b e = absurd a
 
-waited_once : {M : Type 0} (enters : Entering M) → OneWay enters → Starts enters → (k : ℕ) (levels : ℕ) (m : M) (back : M → Answer → Tree M) (s : Show) (shows others : List Show) (deeds more : List Deed) → BusyBack back → Rest enters shows
+waited_once : {M : Type 0} (enters : Entering M) → OneWay enters → (k : ℕ) (levels : ℕ) (m : M) (back : M → Answer → Tree M) (s : Show) (shows others : List Show) (deeds more : List Deed) → Rest enters shows
     → IsSoloFrom enters (Awaits levels m back) (s ∷ shows) deeds → IsSoloFrom enters (Awaits levels m back) (s ∷ others) more → take k shows ≡ take k others → take (suc k) deeds ≡ take (suc k) more
 unfolding IsSoloFrom
-waited_once {M} enters one starts k levels n back (Enters s) shows others deeds more busy rest (t, entered, a) (u, also, b) e =
-    let P : Tree M → Type 0 = λ tree. IsSoloFrom enters tree others more in
-    rest k t others deeds more (starts s levels n back t busy entered) a (subst P (sym (one s levels n back t u entered also)) b) e
-waited_once enters one starts k levels n back (Backs s) shows others deeds more busy rest a b e = rest k (back n s) others deeds more (busy n s) a b e
-waited_once enters one starts k levels n back (Answers s) shows others deeds more busy rest a b e = absurd a
+waited_once {M} enters one k levels n back (Enters s) shows others deeds more rest (t, entered, a) (u, also, b) e =
+    let P : Tree M → Type 0 = λ tree. IsSoloFrom enters (Does tree) others more in
+    rest k t others deeds more a (subst P (sym (one s levels n back t u entered also)) b) e
+waited_once enters one k levels n back (Backs s) shows others deeds more rest a b e = rest k (back n s) others deeds more a b e
+waited_once enters one k levels n back (Answers s) shows others deeds more rest a b e = absurd a
 
 -- where nothing more is shown, all that is done is the same
-asked_last : {M : Type 0} (enters : Entering M) (k : ℕ) (request : Request) (next : Answer → Tree M) (deeds more : List Deed) → IsSoloFrom enters (Asks request next) [] deeds → IsSoloFrom enters (Asks request next) [] more → take k deeds ≡ take k more
+asked_last : {M : Type 0} (enters : Entering M) (k : ℕ) (request : Request) (next : Answer → Tree M) (deeds more : List Deed) → IsSoloFrom enters (Does (Asks request next)) [] deeds → IsSoloFrom enters (Does (Asks request next)) [] more → take k deeds ≡ take k more
 unfolding IsSoloFrom
 asked_last enters k request next deeds more (d, p, a) (m, q, b) = ap (λ ds. take k ds) (p ∙ ap (λ ds. Requests request ∷ ds) (a ∙ sym b) ∙ sym q)
 
-told_last : {M : Type 0} (enters : Entering M) (k : ℕ) (act : Act) (levels : ℕ) (m : M) (back : M → Answer → Tree M) (deeds more : List Deed) → IsSoloFrom enters (Tells act levels m back) [] deeds → IsSoloFrom enters (Tells act levels m back) [] more → take k deeds ≡ take k more
+told_last : {M : Type 0} (enters : Entering M) (k : ℕ) (act : Act) (levels : ℕ) (m : M) (back : M → Answer → Tree M) (deeds more : List Deed) → IsSoloFrom enters (Does (Tells act levels m back)) [] deeds → IsSoloFrom enters (Does (Tells act levels m back)) [] more → take k deeds ≡ take k more
 unfolding IsSoloFrom
 told_last enters k act levels n back deeds more (d, p, a) (m, q, b) = ap (λ ds. take k ds) (p ∙ ap (λ ds. Says act ∷ ds) (a ∙ sym b) ∙ sym q)
 
@@ -98,55 +84,51 @@ unfolding IsSoloFrom
 waited_last enters k levels n back deeds more a b = ap (λ ds. take k ds) (a ∙ sym b)
 
 -- the law of one more show, however the first show is told
-asked_more : {M : Type 0} (enters : Entering M) (k : ℕ) (request : Request) (next : Answer → Tree M) (shows others : List Show) (deeds more : List Deed) → Busy (Asks request next)
-    → ((s : Show) (rest : List Show) → shows ≡ s ∷ rest → Rest enters rest)
-    → IsSoloFrom enters (Asks request next) shows deeds → IsSoloFrom enters (Asks request next) others more → take k shows ≡ take k others → take (suc k) deeds ≡ take (suc k) more
-asked_more enters zero request next shows others deeds more busy rest a b e =
+asked_more : {M : Type 0} (enters : Entering M) (k : ℕ) (request : Request) (next : Answer → Tree M) (shows others : List Show) (deeds more : List Deed) → ((s : Show) (rest : List Show) → shows ≡ s ∷ rest → Rest enters rest)
+    → IsSoloFrom enters (Does (Asks request next)) shows deeds → IsSoloFrom enters (Does (Asks request next)) others more → take k shows ≡ take k others → take (suc k) deeds ≡ take (suc k) more
+asked_more enters zero request next shows others deeds more rest a b e =
     let x = first_asked enters request next shows deeds a in
     let y = first_asked enters request next others more b in
     both_first zero (Requests request) deeds more x.0 y.0 x.1 y.1 refl
-asked_more enters (suc k) request next [] [] deeds more busy rest a b e = asked_last enters (suc (suc k)) request next deeds more a b
-asked_more enters (suc k) request next [] (o ∷ others) deeds more busy rest a b e = no_take k o others e
-asked_more enters (suc k) request next (s ∷ shows) [] deeds more busy rest a b e = no_take k s shows (sym e)
-asked_more enters (suc k) request next (s ∷ shows) (o ∷ others) deeds more busy rest a b e =
-    let P : Show → Type 0 = λ x. IsSoloFrom enters (Asks request next) (x ∷ others) more in
-    asked_once enters k request next s shows others deeds more busy (rest s shows refl) a (subst P (sym (same_head e)) b) (same_tail e)
+asked_more enters (suc k) request next [] [] deeds more rest a b e = asked_last enters (suc (suc k)) request next deeds more a b
+asked_more enters (suc k) request next [] (o ∷ others) deeds more rest a b e = no_take k o others e
+asked_more enters (suc k) request next (s ∷ shows) [] deeds more rest a b e = no_take k s shows (sym e)
+asked_more enters (suc k) request next (s ∷ shows) (o ∷ others) deeds more rest a b e =
+    let P : Show → Type 0 = λ x. IsSoloFrom enters (Does (Asks request next)) (x ∷ others) more in
+    asked_once enters k request next s shows others deeds more (rest s shows refl) a (subst P (sym (same_head e)) b) (same_tail e)
 
-told_more : {M : Type 0} (enters : Entering M) → OneWay enters → Starts enters → (k : ℕ) (act : Act) (levels : ℕ) (m : M) (back : M → Answer → Tree M) (shows others : List Show) (deeds more : List Deed) → BusyBack back
-    → ((s : Show) (rest : List Show) → shows ≡ s ∷ rest → Rest enters rest)
-    → IsSoloFrom enters (Tells act levels m back) shows deeds → IsSoloFrom enters (Tells act levels m back) others more → take k shows ≡ take k others → take (suc k) deeds ≡ take (suc k) more
-told_more enters one starts zero act levels n back shows others deeds more busy rest a b e =
+told_more : {M : Type 0} (enters : Entering M) → OneWay enters → (k : ℕ) (act : Act) (levels : ℕ) (m : M) (back : M → Answer → Tree M) (shows others : List Show) (deeds more : List Deed) → ((s : Show) (rest : List Show) → shows ≡ s ∷ rest → Rest enters rest)
+    → IsSoloFrom enters (Does (Tells act levels m back)) shows deeds → IsSoloFrom enters (Does (Tells act levels m back)) others more → take k shows ≡ take k others → take (suc k) deeds ≡ take (suc k) more
+told_more enters one zero act levels n back shows others deeds more rest a b e =
     let x = first_told enters act levels n back shows deeds a in
     let y = first_told enters act levels n back others more b in
     both_first zero (Says act) deeds more x.0 y.0 x.1 y.1 refl
-told_more enters one starts (suc k) act levels n back [] [] deeds more busy rest a b e = told_last enters (suc (suc k)) act levels n back deeds more a b
-told_more enters one starts (suc k) act levels n back [] (o ∷ others) deeds more busy rest a b e = no_take k o others e
-told_more enters one starts (suc k) act levels n back (s ∷ shows) [] deeds more busy rest a b e = no_take k s shows (sym e)
-told_more {M} enters one starts (suc k) act levels n back (s ∷ shows) (o ∷ others) deeds more busy rest a b e =
-    let P : Show → Type 0 = λ x. IsSoloFrom enters (Tells act levels n back) (x ∷ others) more in
-    told_once enters one starts k act levels n back s shows others deeds more busy (rest s shows refl) a (subst P (sym (same_head e)) b) (same_tail e)
+told_more enters one (suc k) act levels n back [] [] deeds more rest a b e = told_last enters (suc (suc k)) act levels n back deeds more a b
+told_more enters one (suc k) act levels n back [] (o ∷ others) deeds more rest a b e = no_take k o others e
+told_more enters one (suc k) act levels n back (s ∷ shows) [] deeds more rest a b e = no_take k s shows (sym e)
+told_more {M} enters one (suc k) act levels n back (s ∷ shows) (o ∷ others) deeds more rest a b e =
+    let P : Show → Type 0 = λ x. IsSoloFrom enters (Does (Tells act levels n back)) (x ∷ others) more in
+    told_once enters one k act levels n back s shows others deeds more (rest s shows refl) a (subst P (sym (same_head e)) b) (same_tail e)
 
 -- what is left after a show
-rest_same : {M : Type 0} (enters : Entering M) → OneWay enters → Starts enters → (shows : List Show) → Rest enters shows
+rest_same : {M : Type 0} (enters : Entering M) → OneWay enters → (shows : List Show) → Rest enters shows
 unfolding IsSoloFrom
-rest_same enters one starts shows k Fails others deeds more busy a b e = absurd a
-rest_same enters one starts shows k (Awaits levels n back) others deeds more busy a b e = absurd busy
-rest_same enters one starts [] k (Asks request next) others deeds more busy a b e = asked_more enters k request next [] others deeds more busy (λ s rest q. no_take zero s rest (ap (λ xs. take 1 xs) q)) a b e
-rest_same enters one starts (s ∷ shows) k (Asks request next) others deeds more busy a b e =
-    let ih = rest_same enters one starts shows in
-    asked_more enters k request next (s ∷ shows) others deeds more busy (λ t rest q. subst (Rest enters) (same_tail q) ih) a b e
-rest_same enters one starts [] k (Tells act levels n back) others deeds more busy a b e = told_more enters one starts k act levels n back [] others deeds more busy (λ s rest q. no_take zero s rest (ap (λ xs. take 1 xs) q)) a b e
-rest_same enters one starts (s ∷ shows) k (Tells act levels n back) others deeds more busy a b e =
-    let ih = rest_same enters one starts shows in
-    told_more enters one starts k act levels n back (s ∷ shows) others deeds more busy (λ t rest q. subst (Rest enters) (same_tail q) ih) a b e
+rest_same enters one shows k Fails others deeds more a b e = absurd a
+rest_same enters one [] k (Asks request next) others deeds more a b e = asked_more enters k request next [] others deeds more (λ s rest q. no_take zero s rest (ap (λ xs. take 1 xs) q)) a b e
+rest_same enters one (s ∷ shows) k (Asks request next) others deeds more a b e =
+    let ih = rest_same enters one shows in
+    asked_more enters k request next (s ∷ shows) others deeds more (λ t rest q. subst (Rest enters) (same_tail q) ih) a b e
+rest_same enters one [] k (Tells act levels n back) others deeds more a b e = told_more enters one k act levels n back [] others deeds more (λ s rest q. no_take zero s rest (ap (λ xs. take 1 xs) q)) a b e
+rest_same enters one (s ∷ shows) k (Tells act levels n back) others deeds more a b e =
+    let ih = rest_same enters one shows in
+    told_more enters one k act levels n back (s ∷ shows) others deeds more (λ t rest q. subst (Rest enters) (same_tail q) ih) a b e
 
 -- a machine that waits does the same up to the k-th deed where it is shown the same up to the k-th show
-pub same_deeds : {M : Type 0} (enters : Entering M) → OneWay enters → Starts enters → (k : ℕ) (levels : ℕ) (m : M) (back : M → Answer → Tree M) (shows others : List Show) (deeds more : List Deed) → BusyBack back
-    → IsSoloFrom enters (Awaits levels m back) shows deeds → IsSoloFrom enters (Awaits levels m back) others more → take k shows ≡ take k others → take k deeds ≡ take k more
-same_deeds enters one starts zero levels n back shows others deeds more busy a b e = refl
-same_deeds enters one starts (suc k) levels n back [] [] deeds more busy a b e = waited_last enters (suc k) levels n back deeds more a b
-same_deeds enters one starts (suc k) levels n back [] (o ∷ others) deeds more busy a b e = no_take k o others e
-same_deeds enters one starts (suc k) levels n back (s ∷ shows) [] deeds more busy a b e = no_take k s shows (sym e)
-same_deeds enters one starts (suc k) levels n back (s ∷ shows) (o ∷ others) deeds more busy a b e =
+pub same_deeds : {M : Type 0} (enters : Entering M) → OneWay enters → (k : ℕ) (levels : ℕ) (m : M) (back : M → Answer → Tree M) (shows others : List Show) (deeds more : List Deed) → IsSoloFrom enters (Awaits levels m back) shows deeds → IsSoloFrom enters (Awaits levels m back) others more → take k shows ≡ take k others → take k deeds ≡ take k more
+same_deeds enters one zero levels n back shows others deeds more a b e = refl
+same_deeds enters one (suc k) levels n back [] [] deeds more a b e = waited_last enters (suc k) levels n back deeds more a b
+same_deeds enters one (suc k) levels n back [] (o ∷ others) deeds more a b e = no_take k o others e
+same_deeds enters one (suc k) levels n back (s ∷ shows) [] deeds more a b e = no_take k s shows (sym e)
+same_deeds enters one (suc k) levels n back (s ∷ shows) (o ∷ others) deeds more a b e =
     let P : Show → Type 0 = λ x. IsSoloFrom enters (Awaits levels n back) (x ∷ others) more in
-    waited_once enters one starts k levels n back s shows others deeds more busy (rest_same enters one starts shows) a (subst P (sym (same_head e)) b) (same_tail e)
+    waited_once enters one k levels n back s shows others deeds more (rest_same enters one shows) a (subst P (sym (same_head e)) b) (same_tail e)

@@ -1,5 +1,5 @@
 -- How long an actor is closed, which is how long it is said to do what its own machine does; this project's own (after MDN on Xray vision).
-use Rattle.std.specs.Prelude.{◌≡◌, ◌≤◌, ◌&&◌, ◌||◌, ℕ, Bool, true, false, not, List, [], ◌∷◌, ◌++◌, drop, length, nat_le, take, if◌then◌else◌}
+use Rattle.std.specs.Prelude.{◌≡◌, ◌≤◌, ◌&&◌, ◌||◌, Bool, true, false, not, List, [], ◌∷◌, ◌++◌, drop, length, nat_le, take, if◌then◌else◌}
 use Rattle.std.specs.List.{list_any, take_while}
 use Rattle.door.specs.declared.values.Actor.{Actor}
 use Rattle.door.specs.declared.zones.Zone.{Zone}
@@ -10,8 +10,9 @@ use Rattle.door.specs.declared.marks.Mark.{Mark}
 use Rattle.door.specs.declared.marks.Mark.TheVariants.{Enter, Ask, Leave}
 use Rattle.solo_model.specs.Things.{the_page}
 use Rattle.solo_model.specs.View.{Met, Seen, is_actor, met_of, named_request, view_of}
-use Rattle.solo_model.specs.Solo.{Deed, IsSoloFrom, Requests, beginning, deeds_of, shows_of}
-use Rattle.solo_model.specs.Meaning.{Bare, Fresh, Setup, enters}
+use Rattle.solo_model.specs.Solo.{Deed, IsSoloFrom, Requests, deeds_of, shows_of}
+use Rattle.script_meaning.specs.Intrinsics.{Setup}
+use Rattle.script_meaning.specs.Entries.{beginning, enters}
 
 -- what each actor is set up with
 abbrev pub Setups : Type 0
@@ -68,7 +69,7 @@ closed_deeds setups i marks = deeds_of (closed_view setups i marks) ++ reach_in 
 
 -- these deeds are what the actor's own machine does by itself, given what the actor was shown
 abbrev pub AreSolo : Setups → Actor → List Mark → List Deed → Type 0
-AreSolo setups i marks deeds = IsSoloFrom (enters (setups i)) (beginning Fresh) (shows_of (closed_view setups i marks)) deeds
+AreSolo setups i marks deeds = IsSoloFrom enters (beginning (setups i)) (shows_of (closed_view setups i marks)) deeds
 
 -- an actor does what its own machine does by itself, given what it is shown
 abbrev pub ActsAreSolo : Setups → Actor → List Mark → Type 0

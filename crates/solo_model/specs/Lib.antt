@@ -4,8 +4,6 @@ pub mod Stage
 pub mod Truth
 pub mod View
 pub mod Solo
-pub mod Errors
-pub mod Meaning
 pub mod Closed
 pub mod Lawful
-pub mod Stands
+pub mod Leads

@@ -1,22 +1,10 @@
 -- What a script does by itself, given only what it is shown; this project's own.
-use Rattle.std.specs.Prelude.{◌≡◌, ℕ, List, [], ◌∷◌}
-use Rattle.door.specs.declared.values.Actor.{Actor}
+use Rattle.std.specs.Prelude.{◌≡◌, List, [], ◌∷◌}
 use Rattle.door.specs.declared.requests.Request.{Request}
 use Rattle.door.specs.declared.requests.Answer.{Answer}
 use Rattle.door.specs.declared.marks.Entry.{Entry}
-use Rattle.solo_model.specs.View.{Act, Seen, Entered, Asked, Said, Returned}
-
--- What a script does next, where M is what its machine holds: a request, and what follows each answer; a saying, and then it waits,
--- with so many levels left; or it was shown what doesn't fit. What waits goes on with an entry, or with what it waits for.
-pub data Tree (M : Type 0) : Type 0 where
-  Asks : Request → (Answer → Tree M) → Tree M
-  Tells : Act → (levels : ℕ) → M → (M → Answer → Tree M) → Tree M
-  Awaits : (levels : ℕ) → M → (M → Answer → Tree M) → Tree M
-  Fails : Tree M
-
--- how an entry goes on with a machine that waits with so many levels left, and then waits as before
-abbrev pub Entering : Type 0 → Type 1
-Entering M = Entry → (levels : ℕ) → M → (M → Answer → Tree M) → Tree M → Type 0
+use Rattle.script_meaning.specs.Solo.{Tree, Asks, Tells, Point, Does, Awaits, Entering, Act}
+use Rattle.solo_model.specs.View.{Seen, Entered, Asked, Said, Returned}
 
 -- what a script is shown: an entry, the answer to a request, what a dispatch gives back
 pub data Show : Type 0 where
@@ -50,22 +38,14 @@ abbrev pub First : Deed → List Deed → (List Deed → Type 0) → Type 0
 First deed deeds Then = (more : List Deed) × (deeds ≡ deed ∷ more) × Then more
 
 -- these are the deeds of what is left to do when these are shown, one deed for each show; where a show doesn't fit, there are none such
-unfoldable pub IsSoloFrom : {M : Type 0} → Entering M → Tree M → List Show → List Deed → Type 0
-IsSoloFrom enters (Asks request next) [] deeds = First (Requests request) deeds (λ more. more ≡ [])
-IsSoloFrom enters (Asks request next) (Answers answer ∷ shows) deeds = First (Requests request) deeds (IsSoloFrom enters (next answer) shows)
-IsSoloFrom enters (Tells act levels m back) [] deeds = First (Says act) deeds (λ more. more ≡ [])
-IsSoloFrom enters (Tells act levels m back) (Enters entry ∷ shows) deeds =
-    First (Says act) deeds (λ more. (tree : Tree _) × enters entry levels m back tree × IsSoloFrom enters tree shows more)
-IsSoloFrom enters (Tells act levels m back) (Backs answer ∷ shows) deeds = First (Says act) deeds (IsSoloFrom enters (back m answer) shows)
+unfoldable pub IsSoloFrom : {M : Type 0} → Entering M → Point M → List Show → List Deed → Type 0
+IsSoloFrom enters (Does (Asks request next)) [] deeds = First (Requests request) deeds (λ more. more ≡ [])
+IsSoloFrom enters (Does (Asks request next)) (Answers answer ∷ shows) deeds = First (Requests request) deeds (IsSoloFrom enters (Does (next answer)) shows)
+IsSoloFrom enters (Does (Tells act levels m back)) [] deeds = First (Says act) deeds (λ more. more ≡ [])
+IsSoloFrom enters (Does (Tells act levels m back)) (Enters entry ∷ shows) deeds =
+    First (Says act) deeds (λ more. (tree : Tree _) × enters entry levels m back tree × IsSoloFrom enters (Does tree) shows more)
+IsSoloFrom enters (Does (Tells act levels m back)) (Backs answer ∷ shows) deeds = First (Says act) deeds (IsSoloFrom enters (Does (back m answer)) shows)
 IsSoloFrom enters (Awaits levels m back) [] deeds = deeds ≡ []
-IsSoloFrom enters (Awaits levels m back) (Enters entry ∷ shows) deeds = (tree : Tree _) × enters entry levels m back tree × IsSoloFrom enters tree shows deeds
-IsSoloFrom enters (Awaits levels m back) (Backs answer ∷ shows) deeds = IsSoloFrom enters (back m answer) shows deeds
-IsSoloFrom enters tree shows deeds = ⊥
-
--- the levels that an actor has for all its unfinished expressions, statements, calls and entries
-abbrev pub LEVELS : ℕ
-LEVELS = 480
-
--- before anything the machine waits for an entry; nothing is unfinished, so nothing comes back
-abbrev pub beginning : {M : Type 0} → M → Tree M
-beginning fresh = Awaits LEVELS fresh (λ m answer. Fails)
+IsSoloFrom enters (Awaits levels m back) (Enters entry ∷ shows) deeds = (tree : Tree _) × enters entry levels m back tree × IsSoloFrom enters (Does tree) shows deeds
+IsSoloFrom enters (Awaits levels m back) (Backs answer ∷ shows) deeds = IsSoloFrom enters (Does (back m answer)) shows deeds
+IsSoloFrom enters point shows deeds = ⊥

@@ -1,5 +1,5 @@
 -- What one actor sees of a journal: its own marks in order, with things and foreign objects named by the order in which it met them; this project's own.
-use Rattle.std.specs.Prelude.{◌+◌, ◌&&◌, ℕ, Bool, true, false, List, [], ◌∷◌, ◌++◌, map, nat_eq, if◌then◌else◌}
+use Rattle.std.specs.Prelude.{◌&&◌, ℕ, Bool, List, [], ◌∷◌, ◌++◌, map, nat_eq, if◌then◌else◌}
 use Rattle.std.specs.List.{list_any, position_or_len}
 use Rattle.door.specs.declared.values.Actor.{Actor}
 use Rattle.door.specs.declared.values.Kind.{Kind}
@@ -15,9 +15,9 @@ use Rattle.door.specs.declared.requests.Answer.{Answer}
 use Rattle.door.specs.declared.requests.Answer.TheVariants.{Value as ValueAnswer, List as ListAnswer, Thrown}
 use Rattle.door.specs.declared.marks.Entry.{Entry}
 use Rattle.door.specs.declared.marks.Entry.TheVariants.{Listener}
-use Rattle.door.specs.declared.marks.Outcome.{Outcome}
 use Rattle.door.specs.declared.marks.Mark.{Mark}
 use Rattle.door.specs.declared.marks.Mark.TheVariants.{Enter, Ask, Dispatch, Back, Leave}
+use Rattle.script_meaning.specs.Solo.{Act, Dispatches, Leaves}
 
 -- an object of an actor, by its place among the actor's own
 pub record Object : Type 0 where
@@ -32,11 +32,6 @@ pub record Met : Type 0 where
 -- the window is met at the start
 abbrev pub at_start : Met
 at_start = record { things = record { kind = Window; number = 0 } ∷ []; objects = [] }
-
--- what an actor does beside its requests: it dispatches an event, or leaves an entry with an outcome and the units used
-pub data Act : Type 0 where
-  Dispatches : (event : ℕ) (target : Thing) → Act
-  Leaves : Outcome → (units : ℕ) → Act
 
 -- one mark as its actor sees it
 pub data Seen : Type 0 where

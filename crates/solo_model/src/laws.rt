@@ -6,7 +6,7 @@ ghost use Rattle.door.specs.declared.values.Actor.{Actor};
 ghost use Rattle.solo_model.specs.Closed.{ActsAreSolo, IsClosed, Setups, closed_deeds, closed_front, closed_view};
 ghost use Rattle.solo_model.specs.Solo.{shows_of};
 
-use small_forms::{page_scripts_are_read_one_way, userscripts_are_read_one_way};
+use script_laws::entries_go_on_one_way;
 
 /// Equal shows give equal deeds: where an actor is set up alike in two runs and does in both what its own machine
 /// does, and is shown the same up to the k-th show, it does the same up to its k-th deed.
@@ -16,8 +16,7 @@ pub fn equal_shows_give_equal_deeds()
         → take k (shows_of (closed_view setups i marks)) ≡ take k (shows_of (closed_view others i more))
         → take k (closed_deeds setups i marks) ≡ take k (closed_deeds others i more) }
 {
-    page_scripts_are_read_one_way();
-    userscripts_are_read_one_way();
+    entries_go_on_one_way();
 }
 
 /// The closed front of a journal is its longest front in which the actor is closed.

@@ -4,7 +4,5 @@
 #![tactic(auto)]
 
 mod laws;
-mod prim;
 
 pub use laws::{equal_shows_give_equal_deeds, the_closed_front_is_the_longest};
-pub use prim::Prim;

@@ -2,9 +2,9 @@ use Rattle.std.proofs.Common.{◌≡◌, OnOk, Ok, Err, Result, List, ◌++◌, 
 use Rattle.door.specs.declared.marks.Mark.{Mark}
 use Rattle.door.specs.declared.marks.Mark.TheVariants.{Ask}
 use Rattle.solo_model.specs.View.{meets_answer, met_of, named_answer}
-use Rattle.solo_model.specs.Stands.{Stands}
+use Rattle.small_meaning.specs.Stands.{Stands}
 use Rattle.small_eval.specs.declared.world.World.{World}
-use Rattle.solo_model.proofs.Steps.{stands-asked}
+use Rattle.small_meaning.proofs.Standing.{stands-asked}
 use Rattle.small_eval.proofs.Sound.{met_asked}
 use Rattle.small_eval.proofs.ask.tell.Goals as goal
 

@@ -1,7 +1,7 @@
 use Rattle.std.proofs.Common.{ap, arith, ◌+◌}
 use Rattle.std.proofs.lemmas.Result.{err_from_is_err_and}
-use Rattle.solo_model.specs.declared.prim.Prim.{Prim}
-use Rattle.solo_model.specs.Meaning.{Lone, bind, part_row, plus_row}
+use Rattle.small_meaning.specs.declared.prim.Prim.{Prim}
+use Rattle.small_meaning.specs.Rows.{Lone, bind, part_row, plus_row}
 use Rattle.small_eval.proofs.Rows.{addition_lone, addition_plus, ends_bound, no_more, small_at, stands_at}
 use Rattle.small_eval.proofs.Sound.{goes_on, keeps_charged, keeps_none, keeps_then, sound_of}
 use Rattle.small_eval.proofs.evaluate.+addition.Goals as goal

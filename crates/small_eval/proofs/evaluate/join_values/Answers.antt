@@ -1,5 +1,5 @@
 use Rattle.std.proofs.Common.{◌∙◌, ap, sym, ◌++◌}
-use Rattle.solo_model.specs.Meaning.{joined_row, text_of}
+use Rattle.small_meaning.specs.Rows.{joined_row, text_of}
 use Rattle.small_eval.proofs.Rows.{stands_at, texts_joined}
 use Rattle.small_eval.proofs.evaluate.join_values.Goals as goal
 

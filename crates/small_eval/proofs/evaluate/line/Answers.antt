@@ -1,6 +1,6 @@
 use Rattle.std.proofs.Common.{ap}
 use Rattle.small_forms.specs.declared.script.Line.{Line}
-use Rattle.solo_model.specs.Meaning.{line_row}
+use Rattle.small_meaning.specs.Rows.{line_row}
 use Rattle.small_eval.proofs.Rows.{stands_at}
 use Rattle.small_eval.proofs.evaluate.line.Goals as goal
 

@@ -1,6 +1,6 @@
 use Rattle.std.proofs.Common.{arith, ℕ, ◌+◌, drop}
 use Rattle.std.proofs.lemmas.Result.{err_from_is_err_and}
-use Rattle.solo_model.specs.Meaning.{follow, lines_row}
+use Rattle.small_meaning.specs.Rows.{follow, lines_row}
 use Rattle.small_eval.proofs.Rows.{adds_item, ends_follow, lines_item, lines_over, stands_at}
 use Rattle.small_eval.proofs.Sound.{goes_on, headed_of, keeps_none, keeps_then, room_of, small_limit, sound_of}
 use Rattle.small_eval.proofs.evaluate.lines.Goals as goal

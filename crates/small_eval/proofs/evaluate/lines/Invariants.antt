@@ -1,6 +1,7 @@
 use Rattle.std.proofs.Common.{drop}
-use Rattle.solo_model.specs.Meaning.{Cont, Setup, lines_row}
-use Rattle.solo_model.specs.Stands.{Stands}
+use Rattle.script_meaning.specs.Intrinsics.{Setup}
+use Rattle.small_meaning.specs.Rows.{Cont, lines_row}
+use Rattle.small_meaning.specs.Stands.{Stands}
 use Rattle.small_eval.specs.Worlds.{Keeps}
 use Rattle.small_eval.proofs.evaluate.lines.Given as goal
 

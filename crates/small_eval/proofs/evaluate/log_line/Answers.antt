@@ -1,7 +1,7 @@
 use Rattle.std.proofs.Common.{ℕ}
 use Rattle.std.proofs.lemmas.Result.{err_from_is_err_and}
-use Rattle.solo_model.specs.declared.prim.Prim.{Prim}
-use Rattle.solo_model.specs.Meaning.{bind, logged_row}
+use Rattle.small_meaning.specs.declared.prim.Prim.{Prim}
+use Rattle.small_meaning.specs.Rows.{bind, logged_row}
 use Rattle.small_eval.proofs.Rows.{after_line, ends_bound, log_charged, logged_charged, stands_at}
 use Rattle.small_eval.proofs.Sound.{keeps_charged, keeps_none, keeps_then}
 use Rattle.small_eval.proofs.evaluate.log_line.Goals as goal

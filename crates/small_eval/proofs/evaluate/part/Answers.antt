@@ -1,6 +1,6 @@
 use Rattle.std.proofs.Common.{ap}
 use Rattle.std.proofs.lemmas.Result.{err_from_is_err_and}
-use Rattle.solo_model.specs.Meaning.{part_row}
+use Rattle.small_meaning.specs.Rows.{part_row}
 use Rattle.small_forms.specs.declared.script.Part.{Part}
 use Rattle.small_eval.proofs.Rows.{stands_at}
 use Rattle.small_eval.proofs.Sound.{keeps_none}

@@ -1,8 +1,8 @@
 use Rattle.std.proofs.Common.{ap, sym, ℕ, [], ◌∷◌}
 use Rattle.std.proofs.lemmas.Result.{err_from_is_err_and}
 use Rattle.door.specs.declared.values.Thing.{Thing}
-use Rattle.solo_model.specs.declared.prim.Prim.{Prim}
-use Rattle.solo_model.specs.Meaning.{Next, ask, bind, sum_row, with_nothing, written_row}
+use Rattle.small_meaning.specs.declared.prim.Prim.{Prim}
+use Rattle.small_meaning.specs.Rows.{Next, ask, bind, sum_row, with_nothing, written_row}
 use Rattle.door.specs.declared.values.Value.TheVariants.{Str as StrValue}
 use Rattle.door.specs.declared.members.Member.TheVariants.{DocumentSetTitle}
 use Rattle.door.specs.declared.requests.Request.TheVariants.{Native}

@@ -5,7 +5,6 @@ use Rattle.std.specs.Prelude.{◌≡◌, ◌+◌, ◌-◌, ◌/◌, ℕ, List, [
 use Rattle.std.specs.Fmt.{decimal}
 use Rattle.base_text.specs.Scalars.{utf8_len}
 use Rattle.base_text.specs.declared.text.TheConstants.{TEXT_LIMIT}
-use Rattle.door.specs.declared.grants.GrantSet.{GrantSet}
 use Rattle.door.specs.declared.zones.Zone.{Zone}
 use Rattle.door.specs.declared.zones.Zone.TheVariants.{Page, XrayScript}
 use Rattle.door.specs.declared.values.Kind.{Kind}
@@ -24,7 +23,6 @@ use Rattle.door.specs.declared.marks.StopKind.{StopKind}
 use Rattle.door.specs.declared.marks.StopKind.TheVariants.{Fuel}
 use Rattle.door.specs.declared.marks.Outcome.{Outcome}
 use Rattle.door.specs.declared.marks.Outcome.TheVariants.{Done as DoneOutcome, Throw, Stop}
-use Rattle.door.specs.declared.marks.Entry.{Entry}
 use Rattle.door.specs.declared.marks.Entry.TheVariants.{Script}
 use Rattle.small_forms.specs.declared.script.Part.{Part}
 use Rattle.small_forms.specs.declared.script.Part.TheVariants.{Title, Number, Quoted}
@@ -32,12 +30,13 @@ use Rattle.small_forms.specs.declared.script.Sum.{Sum}
 use Rattle.small_forms.specs.declared.script.Line.{Line}
 use Rattle.small_forms.specs.declared.script.Line.TheVariants.{Log, SetTitle}
 use Rattle.small_forms.specs.Scripts.{IsPageScript, IsUserscript}
-use Rattle.solo_model.specs.declared.prim.Prim.{Prim}
-use Rattle.solo_model.specs.declared.prim.Prim.TheVariants.{Number as NumberPrim, Str as StrPrim}
-use Rattle.solo_model.specs.Errors.{error_text}
+use Rattle.small_meaning.specs.declared.prim.Prim.{Prim}
+use Rattle.small_meaning.specs.declared.prim.Prim.TheVariants.{Number as NumberPrim, Str as StrPrim}
+use Rattle.small_meaning.specs.Errors.{error_text}
 use Rattle.solo_model.specs.Things.{the_window}
-use Rattle.solo_model.specs.View.{Leaves}
-use Rattle.solo_model.specs.Solo.{Tree, Asks, Tells, Fails, Entering}
+use Rattle.script_meaning.specs.Intrinsics.{Setup}
+use Rattle.script_meaning.specs.Entries.{FUEL, LEVELS}
+use Rattle.script_meaning.specs.Solo.{Leaves, Tree, Asks, Tells, Fails, Point, Awaits, Entering}
 
 -- what the machine of these scripts holds: nothing that changes
 pub data Bare : Type 0 where
@@ -188,10 +187,6 @@ unfoldable pub lines_row : Zone → List Line → Cont → ℕ → Tree Bare
 lines_row zone [] c = c Next
 lines_row zone (line ∷ lines) c = line_row zone line (follow (lines_row zone lines c) c)
 
--- the units of an entry
-abbrev pub FUEL : ℕ
-FUEL = 200000
-
 -- how an entry ends
 abbrev pub outcome_of : Done → Outcome
 outcome_of (Gives value) = DoneOutcome
@@ -203,12 +198,6 @@ outcome_of (Halts stop) = Stop stop
 abbrev pub leave : (levels : ℕ) → Bare → (Bare → Answer → Tree Bare) → Cont
 leave levels m back done fuel = Tells (Leaves (outcome_of done) (FUEL - fuel)) levels m back
 
--- what a script is set up with: its zone, its grants and the page's address
-pub record Setup : Type 0 where
-  pub zone : Zone
-  pub grants : GrantSet
-  pub address : List ℕ
-
 -- the lines that a script's text is read as, by its zone
 abbrev pub Reads : Zone → List ℕ → List Line → Type 0
 Reads Page text lines = IsPageScript text lines
@@ -219,3 +208,7 @@ Reads zone text lines = ⊥
 abbrev pub enters : Setup → Entering Bare
 enters setup (Script text) levels m back tree = (lines : List Line) × Reads setup.zone text lines × (tree ≡ lines_row setup.zone lines (leave levels m back) FUEL)
 enters setup entry levels m back tree = ⊥
+
+-- before anything the machine waits for an entry; nothing is unfinished, so nothing comes back
+abbrev pub beginning : Point Bare
+beginning = Awaits LEVELS Fresh (λ m answer. Fails)

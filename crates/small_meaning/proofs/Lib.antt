@@ -1,0 +1,13 @@
+pub mod Cells
+pub mod Alike
+pub mod Charges
+pub mod Lookups
+pub mod Documents
+pub mod Texts
+pub mod Titles
+pub mod Forms
+pub mod Sums
+pub mod Lines
+pub mod Solos
+pub mod Standing
+pub mod Shown

@@ -1,0 +1,14 @@
+pub mod Front
+pub mod Tests
+pub mod Words
+pub mod Marks
+pub mod Numbers
+pub mod Gaps
+pub mod Ends
+pub mod Expressions
+pub mod Statements
+pub mod Sums
+pub mod Lines
+pub mod Lengths
+pub mod Whole
+pub mod OfPages
