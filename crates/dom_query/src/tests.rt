@@ -15,10 +15,16 @@ fn make(rt: &impl Abort, alloc: Global, tree: &mut Tree, tag: &str) -> Result<No
     Ok(tree.create(PAGE, NodeForm::Element(Text::of(alloc, tag)?))?)
 }
 
-fn put(rt: &impl Abort, tree: &mut Tree, parent: u32, node: NodeId) -> Result<(), Fail> {
+fn put(
+    rt: &impl Abort,
+    tree: &mut Tree,
+    parent: u32,
+    node: NodeId,
+    before: Option<NodeId>,
+) -> Result<(), Fail> {
     assert!(rt; parent < tree.count());
     assert!(rt; node.0 < tree.count());
-    tree.insert(NodeId(parent), node, None)?;
+    tree.insert(NodeId(parent), node, before)?;
     Ok(())
 }
 
@@ -40,7 +46,8 @@ fn set(
     Ok(())
 }
 
-/// Nodes 1 to 18 are in the document; 19 and 20 aren't.
+/// Nodes 1 to 18 are in the document, 18 as the first child of node 4; 19 and 20 aren't. 21 is a text in
+/// node 6.
 fn grown(rt: &impl Abort, alloc: Global) -> Result<Tree, Fail> {
     let mut tree = Tree::new(alloc)?;
     let nodes = [
@@ -65,11 +72,15 @@ fn grown(rt: &impl Abort, alloc: Global) -> Result<Tree, Fail> {
     ];
     for (parent, tag) in nodes {
         let node = make(rt, alloc, &mut tree, tag)?;
-        put(rt, &mut tree, parent, node)?;
+        put(rt, &mut tree, parent, node, None)?;
     }
+    put(rt, &mut tree, 4, NodeId(18), Some(NodeId(5)))?;
     let aside = make(rt, alloc, &mut tree, "div")?;
     let inside = make(rt, alloc, &mut tree, "p")?;
-    put(rt, &mut tree, aside.0, inside)?;
+    put(rt, &mut tree, aside.0, inside, None)?;
+    assert!(rt; tree.count() < 1_000);
+    let words = tree.create(PAGE, NodeForm::Str(Text::of(alloc, "p")?))?;
+    put(rt, &mut tree, 6, words, None)?;
     let attributes = [
         (4, "id", "top"),
         (4, "class", "page main"),
@@ -95,6 +106,7 @@ fn grown(rt: &impl Abort, alloc: Global) -> Result<Tree, Fail> {
         (16, "title", ""),
         (17, "id", "s1"),
         (18, "class", "grün"),
+        (18, "id", "list"),
         (19, "id", "loose"),
         (20, "id", "b"),
     ];
@@ -119,7 +131,7 @@ fn selectors_list_elements_in_tree_order(rt: HostRuntime) -> Result<(), Fail> {
     let tree = grown(&rt, alloc)?;
     // root, selector, what it lists
     let cases = [
-        (0, "*", " 1 2 3 4 5 6 7 8 9 10 11 12 13 14 15 16 17 18"),
+        (0, "*", " 1 2 3 4 18 5 6 7 8 9 10 11 12 13 14 15 16 17"),
         (0, "html", " 1"),
         (0, "div", " 5 15"),
         (0, "DIV", " 5 15"),
@@ -127,18 +139,20 @@ fn selectors_list_elements_in_tree_order(rt: HostRuntime) -> Result<(), Fail> {
         (0, "#a", " 5"),
         (0, "#A", ""),
         (0, "#s1", " 7 17"),
+        (0, "#list", " 18 9"),
         (0, ".box", " 5 14 15"),
         (0, ".Box", ""),
         (0, ".item", " 10 11"),
         (0, ".ite", ""),
         (0, ".last", " 15"),
         (0, ".grün", " 18"),
+        (0, ".box,.grün", " 18 5 14 15"),
         (0, "p.note.warn", " 8"),
         (0, "p.warn.note", " 8"),
         (0, ".x.y", " 7"),
         (0, "*.box", " 5 14 15"),
-        (0, "[id]", " 4 5 7 9 17"),
-        (0, "[ID]", " 4 5 7 9 17"),
+        (0, "[id]", " 4 18 5 7 9 17"),
+        (0, "[ID]", " 4 18 5 7 9 17"),
         (0, "[data-n]", " 10 11 13"),
         (0, "[data-n=1]", " 10"),
         (0, "[data-n='1']", " 10"),
@@ -221,7 +235,7 @@ fn texts_that_spell_no_selector(rt: HostRuntime) -> Result<(), Fail> {
 fn ids_and_tags_are_found(rt: HostRuntime) -> Result<(), Fail> {
     let alloc = rt.alloc();
     let tree = grown(&rt, alloc)?;
-    for (id, want) in [("top", 4), ("a", 5), ("s1", 7), ("list", 9)] {
+    for (id, want) in [("top", 4), ("a", 5), ("s1", 7), ("list", 18)] {
         assert_eq!(rt; by_id(&tree, &Text::of(alloc, id)?), Some(NodeId(want)));
     }
     for id in ["loose", "b", "A", "none", ""] {
@@ -229,7 +243,7 @@ fn ids_and_tags_are_found(rt: HostRuntime) -> Result<(), Fail> {
     }
     // root, tag, what it lists
     let cases = [
-        (0, "*", " 1 2 3 4 5 6 7 8 9 10 11 12 13 14 15 16 17 18"),
+        (0, "*", " 1 2 3 4 18 5 6 7 8 9 10 11 12 13 14 15 16 17"),
         (0, "LI", " 10 11 13"),
         (0, "none", ""),
         (5, "*", " 6 7 8"),

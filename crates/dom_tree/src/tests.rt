@@ -288,7 +288,10 @@ fn nodes_are_asked(rt: HostRuntime) -> Result<(), Fail> {
     assert_eq!(rt; tree.first_child(NodeId(1)), Some(NodeId(2)));
     assert_eq!(rt; tree.next_sibling(NodeId(2)), Some(NodeId(3)));
     assert_eq!(rt; tree.next_sibling(NodeId(3)), None);
+    assert_eq!(rt; tree.next_sibling(DOCUMENT), None);
+    assert_eq!(rt; tree.first_child(NodeId(4)), None);
     assert!(rt; tree.form(DOCUMENT).is_none());
+    assert!(rt; tree.attr_at(NodeId(2), 0).is_none());
     for (node, want) in [
         (0, "one two"),
         (1, "one two"),
@@ -333,42 +336,92 @@ fn texts_are_replaced(rt: HostRuntime) -> Result<(), Fail> {
 }
 
 #[test]
-fn limits_are_met(rt: HostRuntime) -> Result<(), Fail> {
+fn texts_are_limited(rt: HostRuntime) -> Result<(), Fail> {
+    let alloc = rt.alloc();
+    let mut tree = grown(&rt, alloc)?;
+    let most = "x".repeat(alloc, 262_144)?;
+    // node 1 has the texts 4 and 5 below it, and node 3 the text 5
+    for (node, t) in [(4, ""), (5, most.as_str()), (6, most.as_str())] {
+        write(&rt, &mut tree, node, &text(alloc, t)?)?;
+    }
+    for (node, under) in [(0, 1), (1, 2), (3, 1), (5, 0), (6, 0)] {
+        assert!(rt; reads(&rt, &tree, node, &most, under)?);
+    }
+    write(&rt, &mut tree, 4, &text(alloc, "y")?)?;
+    assert!(rt; 3 < tree.count());
+    assert_eq!(rt; tree.text_of(DOCUMENT), Err(TreeFault::TooLong));
+    assert_eq!(rt; tree.text_of(NodeId(1)), Err(TreeFault::TooLong));
+    assert!(rt; reads(&rt, &tree, 3, &most, 1)?);
+    Ok(())
+}
+
+#[test]
+fn depth_is_limited(rt: HostRuntime) -> Result<(), Fail> {
     let alloc = rt.alloc();
     let mut tree = Tree::new(alloc)?;
     let tag = text(alloc, "p")?;
-    let mut last = DOCUMENT;
-    for step in 1..=257 {
-        let node = make(&rt, &mut tree, PAGE, NodeForm::Element(tag.share()?))?;
-        let want = if step <= 256 {
-            Ok(())
-        } else {
-            Err(TreeFault::TooDeep)
-        };
-        assert_eq!(rt; put(&rt, &mut tree, last.0, node.0, None), want);
-        if step <= 256 {
-            last = node;
-        }
+    // node n is n steps below the document
+    for n in 1..=256 {
+        make(&rt, &mut tree, PAGE, NodeForm::Element(tag.share()?))?;
+        put(&rt, &mut tree, n - 1, n, None)?;
     }
-    assert_eq!(rt;
-        write(&rt, &mut tree, last.0, &tag),
-        Err(TreeFault::TooDeep)
-    );
-    for _ in 0..99_999 {
-        make(&rt, &mut tree, HOST, NodeForm::Element(tag.share()?))?;
-    }
-    assert_eq!(rt;
-        make(&rt, &mut tree, HOST, NodeForm::Element(tag.share()?)),
-        Err(TreeFault::NodeLimit)
-    );
-    assert!(rt; make(&rt, &mut tree, PAGE, NodeForm::Element(tag.share()?)).is_ok());
-    for _ in 258..100_000 {
+    for _ in 0..3 {
         make(&rt, &mut tree, PAGE, NodeForm::Element(tag.share()?))?;
     }
-    assert_eq!(rt;
-        make(&rt, &mut tree, PAGE, NodeForm::Element(tag.share()?)),
-        Err(TreeFault::NodeLimit)
-    );
-    assert_eq!(rt; write(&rt, &mut tree, 1, &tag), Err(TreeFault::NodeLimit));
+    make(&rt, &mut tree, PAGE, NodeForm::Str(tag.share()?))?;
+    make(&rt, &mut tree, PAGE, NodeForm::Comment(tag.share()?))?;
+    put(&rt, &mut tree, 257, 258, None)?;
+    // parent, node, before, answer; the element 257 has the child 258
+    let cases = [
+        (256, 257, None, Err(TreeFault::TooDeep)),
+        (256, 259, None, Err(TreeFault::TooDeep)),
+        (256, 260, None, Err(TreeFault::TooDeep)),
+        (256, 261, None, Err(TreeFault::TooDeep)),
+        (255, 257, None, Err(TreeFault::TooDeep)),
+        (255, 257, Some(256), Err(TreeFault::TooDeep)),
+        (256, 257, Some(256), Err(TreeFault::NotFound)),
+        (256, 2, None, Err(TreeFault::Hierarchy)),
+        (255, 259, Some(256), Ok(())),
+        (255, 260, None, Ok(())),
+        (255, 261, None, Ok(())),
+        (254, 257, None, Ok(())),
+        (258, 259, None, Err(TreeFault::TooDeep)),
+        (257, 259, None, Ok(())),
+    ];
+    for (parent, node, before, want) in cases {
+        let before = before.map(|n| NodeId(n));
+        assert_eq!(rt;
+            put(&rt, &mut tree, parent, node, before),
+            want,
+            "{node} in {parent}"
+        );
+    }
+    assert_eq!(rt; write(&rt, &mut tree, 256, &tag), Err(TreeFault::TooDeep));
+    assert_eq!(rt; write(&rt, &mut tree, 256, &text(alloc, "")?), Ok(()));
+    assert_eq!(rt; write(&rt, &mut tree, 255, &tag), Ok(()));
+    Ok(())
+}
+
+#[test]
+fn makers_are_limited(rt: HostRuntime) -> Result<(), Fail> {
+    let alloc = rt.alloc();
+    let mut tree = Tree::new(alloc)?;
+    let tag = text(alloc, "p")?;
+    // the host has made the document
+    for (maker, first) in [(HOST, 2), (PAGE, 1)] {
+        for _ in first..=100_000 {
+            make(&rt, &mut tree, maker, NodeForm::Element(tag.share()?))?;
+        }
+        let more = make(&rt, &mut tree, maker, NodeForm::Element(tag.share()?));
+        assert_eq!(rt; more, Err(TreeFault::NodeLimit));
+    }
+    assert_eq!(rt; tree.count(), 200_000);
+    assert!(rt; make(&rt, &mut tree, Actor(2), NodeForm::Element(tag.share()?)).is_ok());
+    // a text would be one node of the page more, however deep it stood
+    for n in 1..=256 {
+        put(&rt, &mut tree, n - 1, n, None)?;
+        assert_eq!(rt; write(&rt, &mut tree, n, &tag), Err(TreeFault::NodeLimit));
+    }
+    assert_eq!(rt; write(&rt, &mut tree, 256, &text(alloc, "")?), Ok(()));
     Ok(())
 }
