@@ -5,4 +5,5 @@ pub mod PrintedParts
 pub mod Reading
 pub mod Scanning
 pub mod Spelling
+pub mod TagSpelling
 pub mod Wholes

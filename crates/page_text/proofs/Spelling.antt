@@ -2,7 +2,6 @@
 use Rattle.std.proofs.Common.{◌≡◌, ℕ, suc, ◌<◌, ◌≤◌, ◌⊎◌, inl, inr, Bool, true, false, cond, List, [], ◌∷◌, ◌++◌, Result, Ok, Err, length, drop, refl, ap, sym, ◌∙◌, subst, arith}
 use Rattle.std.proofs.lemmas.Bool.{le-ltb, ltb-false, eqb-true, eq-eqb}
 use Rattle.std.proofs.Common.{ltb}
-use Rattle.std.proofs.Common.{ltb}
 use Rattle.std.specs.Str.{chars}
 use Rattle.base_text.specs.declared.text.TheConstants.{TEXT_LIMIT}
 use Rattle.page_text.specs.declared.faults.PageKind.{PageKind}
@@ -22,7 +21,7 @@ use Rattle.page_text.proofs.Scanning.{parts_join, before_clear, from_stops}
 
 -- ---- a text up to a place
 
-upto_here : (q : Bytes → Bool) (text : Bytes) → Upto q text (before q text) (from q text)
+pub upto_here : (q : Bytes → Bool) (text : Bytes) → Upto q text (before q text) (from q text)
 upto_here q text = record { whole = sym (parts_join q text); clear = before_clear q text; stop = from_stops q text }
 
 upto_parts : (q : Bytes → Bool) (front behind : Bytes) → ((k : ℕ) → k < length front → q (drop k (front ++ behind)) ≡ false) → ((behind ≡ []) ⊎ (q behind ≡ true)) → (front ≡ before q (front ++ behind)) × (behind ≡ from q (front ++ behind))
@@ -35,39 +34,39 @@ upto_parts q (f ∷ front) behind clear stop =
     let more = upto_parts q front behind (λ k h. clear (suc k) (omega arith)) stop in
     (rw here (ap (λ xs. f ∷ xs) more.0), rw here more.1)
 
-upto_is : (q : Bytes → Bool) (text front behind : Bytes) → Upto q text front behind → (front ≡ before q text) × (behind ≡ from q text)
+pub upto_is : (q : Bytes → Bool) (text front behind : Bytes) → Upto q text front behind → (front ≡ before q text) × (behind ≡ from q text)
 upto_is q text front behind u =
     let at = upto_parts q front behind (λ k h. rw (← u.whole) (u.clear k h)) u.stop in
     (rw u.whole at.0, rw u.whole at.1)
 
 -- ---- answers
 
-bind_ok : {A B : Type 0} (r : Outcome A) (f : A → Outcome B) (y : B) → (r >>= f) ≡ Ok y → (x : A) × (r ≡ Ok x) × (f x ≡ Ok y)
+pub bind_ok : {A B : Type 0} (r : Outcome A) (f : A → Outcome B) (y : B) → (r >>= f) ≡ Ok y → (x : A) × (r ≡ Ok x) × (f x ≡ Ok y)
 bind_ok (Ok x) f y h = (x, refl, h)
 bind_ok (Err e) f y h = absurd (cc)
 
-err_ok : {A E B : Type 0} (e : E) (a : A) → ◌≡◌ {A = Result A E} (Err e) (Ok a) → B
+pub err_ok : {A E B : Type 0} (e : E) (a : A) → ◌≡◌ {A = Result A E} (Err e) (Ok a) → B
 err_ok e a h = absurd (cc)
 
 ok_same : {A : Type 0} (x y : A) → ◌≡◌ {A = Outcome A} (Ok x) (Ok y) → x ≡ y
 ok_same x y h = cc
 
-pair_same : {A B : Type 0} (a b : A) (x y : B) → ◌≡◌ {A = Outcome (A × B)} (Ok (a, x)) (Ok (b, y)) → (a ≡ b) × (x ≡ y)
+pub pair_same : {A B : Type 0} (a b : A) (x y : B) → ◌≡◌ {A = Outcome (A × B)} (Ok (a, x)) (Ok (b, y)) → (a ≡ b) × (x ≡ y)
 pair_same {A = A} {B = B} a b x y h = let e = ok_same (a, x) (b, y) h in (ap (λ (p : A × B). p.0) e, ap (λ (p : A × B). p.1) e)
 
 checked_ok_at : (read at : Bytes) (x : List ℕ) (v : Bool) → ltb TEXT_LIMIT (length read) ≡ v → ◌≡◌ {A = Outcome (List ℕ)} (cond v (Err (TooLong, at)) (Ok (chars read))) (Ok x) → (length read ≤ TEXT_LIMIT) × (x ≡ chars read)
 checked_ok_at read at x true e h = err_ok (TooLong, at) x h
 checked_ok_at read at x false e h = (ltb-false TEXT_LIMIT (length read) e, sym (ok_same (chars read) x h))
 
-checked_ok : (read at : Bytes) (x : List ℕ) → checked read at ≡ Ok x → (length read ≤ TEXT_LIMIT) × (x ≡ chars read)
+pub checked_ok : (read at : Bytes) (x : List ℕ) → checked read at ≡ Ok x → (length read ≤ TEXT_LIMIT) × (x ≡ chars read)
 unfolding checked
 checked_ok read at x h = checked_ok_at read at x (ltb TEXT_LIMIT (length read)) refl h
 
-checked_again : (read at : Bytes) → length read ≤ TEXT_LIMIT → checked read at ≡ Ok (chars read)
+pub checked_again : (read at : Bytes) → length read ≤ TEXT_LIMIT → checked read at ≡ Ok (chars read)
 unfolding checked
 checked_again read at h = rw (le-ltb TEXT_LIMIT (length read) h) refl
 
-sees_cons : (b : ℕ) (text : Bytes) → sees b text ≡ true → text ≡ b ∷ drop 1 text
+pub sees_cons : (b : ℕ) (text : Bytes) → sees b text ≡ true → text ≡ b ∷ drop 1 text
 sees_cons b [] h = absurd (cc)
 sees_cons b (c ∷ cs) h = ap (λ x. x ∷ cs) (eqb-true c b h)
 
@@ -216,7 +215,7 @@ attribute_again start text a r (valued name after value raw r' named equals v h)
     let p = upto_is (stops AfterAttribute) text name after named.0 in
     rw (← p.0, ← p.1, checked_again (lowered name) text named.1) (named_valued start (chars (lowered name)) after value raw r equals v h)
 
--- ---- end tags and comments
+-- ---- end tags
 
 module _ (text name rest : Bytes) where
   end_ok_at : (v w : Bool) → spells (60 ∷ (47 ∷ [])) text ≡ v → sees 62 (after_space (t.after_name (drop 2 text))) ≡ w → (e : PageKind × Bytes) (f : PageKind × Bytes)

@@ -7,7 +7,7 @@ use Rattle.page_text.specs.declared.tags.Attribute.{Attribute}
 use Rattle.page_text.specs.Bytes.{Bytes, is_space, is_attribute_byte, begins, sees, lowered}
 use Rattle.page_text.specs.Scans.{stops}
 use Rattle.page_text.specs.Values.{with_line_ends, read_value}
-use Rattle.page_text.specs.Tags.{attribute_of}
+use Rattle.page_text.specs.Tags.{attribute_of, with_attribute}
 
 -- The text is what stands in front, in which no such place is, and what stands behind: nothing, or what begins at such a place.
 pub record Upto (q : Bytes → Bool) (text front behind : Bytes) : Type 0 where
@@ -50,6 +50,17 @@ pub data AreAttributes : Bytes → List Attribute → Bytes → Type 0 where
   slashed : (text gap end rest : Bytes) → Space text gap end → end ≡ 47 ∷ (62 ∷ rest) → AreAttributes text [] rest
   more : (text gap here behind rest : Bytes) (a : Attribute) (others : List Attribute) → Space text gap here → begins is_space text ≡ true → begins is_attribute_byte here ≡ true
       → IsAttribute here a behind → AreAttributes behind others rest → AreAttributes text (a ∷ others) rest
+
+-- those of these attributes that count, behind those that are found: of equal names the first
+abbrev pub counted : List Attribute → List Attribute → List Attribute
+counted found [] = found
+counted found (a ∷ others) = counted (with_attribute found a) others
+
+-- the attributes that count of a tag, and what follows it
+pub record AreCounted (text : Bytes) (found : List Attribute) (rest : Bytes) : Type 0 where
+  pub all : List Attribute
+  pub spelled : AreAttributes text all rest
+  pub first : found ≡ counted [] all
 
 -- the name of a tag, and what follows it
 abbrev pub TagName : Bytes → Bytes → Bytes → Type 0

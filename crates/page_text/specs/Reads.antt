@@ -4,6 +4,8 @@ use Rattle.base_text.specs.declared.memory.OrMemory.{OrMemory}
 use Rattle.base_text.specs.declared.memory.OrMemory.TheVariants.{Fault, NoMemory}
 use Rattle.page_text.specs.declared.faults.PageFault.{PageFault}
 use Rattle.page_text.specs.declared.pieces.Piece.{Piece}
+use Rattle.page_text.specs.declared.reader.Over.{Over}
+use Rattle.page_text.specs.declared.reader.Over.TheVariants.{No, Ended, Refused}
 use Rattle.page_text.specs.Page.{Progress, Pieces, Faulty}
 
 -- where these pieces were to come, the answer is the first of them, or none where there is none
@@ -29,3 +31,9 @@ with_answer (Some piece) pieces = piece ∷ pieces
 abbrev pub IsFault : Progress → OrMemory PageFault → Type 0
 IsFault p (Fault f) = Faulty p f
 IsFault p NoMemory = Unit {0}
+
+-- a reading that is over has one answer, which takes no memory: none after the last piece, and the same fault again
+abbrev pub IsSettled : Over → Result (Option Piece) (OrMemory PageFault) → Type 0
+IsSettled No answer = Unit {0}
+IsSettled Ended answer = answer ≡ Ok None
+IsSettled (Refused f) answer = answer ≡ Err (Fault f)

@@ -20,6 +20,8 @@ mod tags;
 #[cfg(test)]
 mod tests;
 mod values;
+#[cfg(test)]
+mod worked_tests;
 mod writes;
 
 pub use faults::{PageFault, PageKind};

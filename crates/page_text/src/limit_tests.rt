@@ -53,6 +53,8 @@ fn limits_of_depth(rt: HostRuntime) -> Result<(), Fail> {
         ("", "<a>", 256, "", "Unclosed 765"),
         ("", "<a>", 255, "<script>b</script>", "TooDeep 773"),
         ("", "<a>", 255, "<title></title></b>", "WrongEnd 780"),
+        ("<!--\u{e9}-->", "<a>", 257, "", "TooDeep 777"),
+        ("<!--\u{1f600}-->", "<a>", 256, "\u{e9}", "TooDeep 779"),
     ];
     assert_eq!(rt; first_wrong(&rt, rt.alloc(), &rows)?, None);
     Ok(())
@@ -70,7 +72,11 @@ fn limits_of_texts(rt: HostRuntime) -> Result<(), Fail> {
         ("<p>", "a\r\n", 131_073, "</p>", "TooLong 3"),
         ("<title>", "a", 262_144, "</title>", ""),
         ("<title>", "a", 262_145, "</title>", "TooLong 7"),
+        ("<style>", "a", 262_144, "</style>", ""),
         ("<style>", "\r\n", 262_145, "</style>", "TooLong 7"),
+        ("<script>", "a", 262_145, "</script>", "TooLong 8"),
+        ("<textarea>", "&gt;", 262_144, "</textarea>", ""),
+        ("<textarea>", "&gt;", 262_145, "</textarea>", "TooLong 10"),
         ("<!--", "a", 262_144, "-->", ""),
         ("<!--", "a", 262_145, "-->", "TooLong 0"),
     ];
@@ -80,13 +86,16 @@ fn limits_of_texts(rt: HostRuntime) -> Result<(), Fail> {
 
 #[test]
 fn limits_of_names_and_values(rt: HostRuntime) -> Result<(), Fail> {
+    let end = repeated(rt.alloc(), "></", "a", 262_144, ">")?;
     let rows = [
+        ("<", "a", 262_144, end.as_str(), ""),
         ("<", "a", 262_144, "/>", "Unclosed 0"),
         ("<", "a", 262_145, "", "TooLong 1"),
         ("<p ", "a", 262_144, "=\"\"></p>", ""),
         ("<p ", "a", 262_145, "></p>", "TooLong 3"),
         ("<p a=\"", "b", 262_144, "\"></p>", ""),
         ("<p a='", "b", 262_145, "'></p>", "TooLong 6"),
+        ("<p a=\"", "&amp;", 262_144, "\"></p>", ""),
         ("<p a='", "&amp;", 262_145, "'></p>", "TooLong 6"),
         ("<p a=", "b", 262_145, "></p>", "TooLong 5"),
         ("<p \u{e9}=", "b", 262_145, "></p>", "TooLong 6"),
@@ -149,6 +158,34 @@ fn pages_that_are_not_utf8(rt: HostRuntime) -> Result<(), Fail> {
     ];
     for (page, want) in rows {
         let got = read(&rt, rt.alloc(), page)?;
+        assert_eq!(rt; got.as_str(), want);
+    }
+    Ok(())
+}
+
+/// A page of 4,194,304 bytes: spaces, and then these bytes.
+fn full(alloc: Global, end: &[u8]) -> Result<Vec<u8>, AllocError> {
+    let mut page = Vec::new(alloc);
+    for _ in end.len()..4_194_304 {
+        page.push(b' ')?;
+    }
+    page.extend_from_slice(end)?;
+    Ok(page)
+}
+
+#[test]
+fn faults_at_the_last_places(rt: HostRuntime) -> Result<(), Fail> {
+    let deep = repeated(rt.alloc(), "", "<a>", 256, "b")?;
+    let rows = [
+        (b"x".as_slice(), "BadTag 4194303"),
+        (b"\xff", "NotUtf8 4194303"),
+        (b"<a", "Unclosed 4194302"),
+        (b"</a>", "WrongEnd 4194300"),
+        (deep.as_bytes(), "TooDeep 4194303"),
+    ];
+    for (end, want) in rows {
+        let page = full(rt.alloc(), end)?;
+        let got = first_fault(rt.alloc(), &page)?;
         assert_eq!(rt; got.as_str(), want);
     }
     Ok(())

@@ -175,7 +175,8 @@ impl<'a> PageReader<'a> {
     /// The next piece of the page; none after the last one.
     ///
     /// A fault is the page's first; it comes exactly where the bytes are no page, and again
-    /// afterwards. Where no memory was found, the reader is as before.
+    /// afterwards. Where no memory was found, the reader is as before. Behind the last piece and
+    /// behind a fault no memory is taken.
     pub fn next_piece(&mut self, alloc: Global) -> Result<Option<Piece>, OrMemory<PageFault>>
         ensures ok { IfOk result (λ o. spec.Goes self.old.over self.old o self.new) }
         ensures err { IfErr result (λ e. spec.Refuses self.old e self.new) }
@@ -184,6 +185,7 @@ impl<'a> PageReader<'a> {
         ensures fault { (f : PageFault) → spec.Faulty self.old f → reads.IsMet f self.new result }
         ensures faulty { IfOk result (λ o. (f : PageFault) → spec.Faulty self.new f → spec.Faulty self.old f) }
         ensures met { IfErr result (λ e. reads.IsFault self.old e) }
+        ensures settled { reads.IsSettled self.old.over result }
     {
         self.advance(alloc)
     }
@@ -191,6 +193,7 @@ impl<'a> PageReader<'a> {
     fn advance(&mut self, alloc: Global) -> Result<Option<Piece>, OrMemory<PageFault>>
         ensures ok { IfOk result (λ o. spec.Goes self.old.over self.old o self.new) }
         ensures err { IfErr result (λ e. spec.Refuses self.old e self.new) }
+        ensures settled { reads.IsSettled self.old.over result }
     {
         match self.over {
             Over::Ended => return Ok(None),

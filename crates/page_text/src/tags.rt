@@ -1,6 +1,6 @@
 //! Reading the tags of elements.
 
-ghost use Rattle.std.specs.Prelude.{◌≡◌, ◌<◌, ◌≤◌, ◌+◌, length, ◌++◌, ℕ, List, [], ◌∷◌, None, Some, Ok, Err, drop, true, false, IfNone, IfOk, IfErr, IfSome, OnOk, MatchOption};
+ghost use Rattle.std.specs.Prelude.{◌≡◌, ◌<◌, ◌≤◌, ◌+◌, codes, length, ◌++◌, ℕ, List, [], ◌∷◌, None, Some, Ok, Err, drop, true, false, IfNone, IfOk, IfErr, IfSome, OnOk, MatchOption};
 ghost use Rattle.std.specs.List.{list_any};
 ghost use Rattle.std.specs.Str.{IsCharBoundary, bytes_eq};
 ghost use Rattle.page_text.specs.Bytes.{lowered};
@@ -9,6 +9,7 @@ ghost use Rattle.page_text.specs.Outcomes.{Answers, Gives, IsLess, IsRest, check
 ghost use Rattle.page_text.specs.Scans.{before, from, stops};
 ghost use Rattle.page_text.specs.declared.tags.Attribute.{Attribute as ReadAttribute};
 ghost use Rattle.page_text.specs.Grammar as spelled;
+ghost use Rattle.page_text.specs.Values.{spells};
 ghost use Rattle.page_text.specs.Tags as spec;
 
 use crate::faults::{Failed, PageKind};
@@ -332,11 +333,15 @@ pub(crate) fn doctype<'a>(text: &'a str) -> Result<&'a str, Failed<'a>>
     }
 }
 
-/// What is read at a place is spelled so there, and what is spelled so is read: attributes and end
-/// tags, whatever follows them.
+/// What is read at a place is spelled so there, and what is spelled so is read: an attribute, the
+/// attributes of a tag, an end tag and a comment, whatever follows them.
 pub fn tags_are_spelled_so()
     ensures attribute { (start text : List ℕ) (a : ReadAttribute) (rest : List ℕ) → spec.attribute_at start text ≡ Ok (a, rest) → spelled.IsAttribute text a rest }
     ensures attribute_again { (start text : List ℕ) (a : ReadAttribute) (rest : List ℕ) → spelled.IsAttribute text a rest → spec.attribute_at start text ≡ Ok (a, rest) }
+    ensures attributes { (start text : List ℕ) (found : List ReadAttribute) (rest : List ℕ) → spec.Attributes start [] text (Ok (found, rest)) → spelled.AreCounted text found rest }
+    ensures attributes_again { (start text : List ℕ) (found : List ReadAttribute) (rest : List ℕ) → spelled.AreCounted text found rest → spec.Attributes start [] text (Ok (found, rest)) }
     ensures end_tag { (text name rest : List ℕ) → spec.end_tag_at text ≡ Ok (name, rest) → spelled.IsEndTag text name rest }
     ensures end_tag_again { (text name rest : List ℕ) → spelled.IsEndTag text name rest → spec.end_tag_at text ≡ Ok (name, rest) }
+    ensures comment { (text content rest : List ℕ) → spells (codes "<!--") text ≡ true → spec.comment_at text ≡ Ok (content, rest) → spelled.IsComment text content rest }
+    ensures comment_again { (text content rest : List ℕ) → spelled.IsComment text content rest → spec.comment_at text ≡ Ok (content, rest) }
 {}

@@ -344,3 +344,71 @@ fn refused_pages_of_elements(rt: HostRuntime) -> Result<(), Fail> {
     assert_eq!(rt; first_wrong(&rt, rt.alloc(), &rows)?, "no page");
     Ok(())
 }
+
+#[test]
+fn constructs_at_the_end(rt: HostRuntime) -> Result<(), Fail> {
+    let rows = [
+        ("\u{feff}", ""),
+        ("\r\n\r", ""),
+        ("<!doctype a>", ""),
+        ("<!--a-->", "<!--a-->"),
+        ("<br a=b>", "<br a=\"b\">"),
+        ("<br/>", "<br>"),
+        ("<title>a</title>", "<title>a</title>"),
+        ("<style></style\r>", "<style></style>"),
+        (
+            "<script>a</script>",
+            "<script>a</script>{a}<script>a</script>",
+        ),
+        ("<a></a>\n", "<a></a>"),
+    ];
+    assert_eq!(rt; first_wrong(&rt, rt.alloc(), &rows)?, "no page");
+    Ok(())
+}
+
+#[test]
+fn tags_that_are_cut_off(rt: HostRuntime) -> Result<(), Fail> {
+    let rows = [
+        ("<br", "Unclosed 0"),
+        ("<br/", "Unclosed 0"),
+        ("<a b/", "Unclosed 0"),
+        ("<a b='c'/", "Unclosed 0"),
+        ("<a b='c' ", "Unclosed 0"),
+        ("<a b=c/", "Unclosed 0"),
+        ("<a b=&lt;", "Unclosed 0"),
+        ("<a b=\"c", "Unclosed 0"),
+        ("<a b=\u{1f600}", "Unclosed 0"),
+        ("<script src=a", "Unclosed 0"),
+        ("<p>\u{1f600}</", "BadTag 7"),
+        ("<p></p", "Unclosed 3"),
+        ("<p></p\u{c}", "Unclosed 3"),
+    ];
+    assert_eq!(rt; first_wrong(&rt, rt.alloc(), &rows)?, "no page");
+    Ok(())
+}
+
+#[test]
+fn contents_that_are_cut_off(rt: HostRuntime) -> Result<(), Fail> {
+    let rows = [
+        ("<p><", "Unclosed 0"),
+        ("<p>&lt;", "Unclosed 0"),
+        ("<p><!", "BadTag 3"),
+        ("<p><!-", "BadTag 3"),
+        ("<p><!--", "Unclosed 3"),
+        ("<p><!--a-", "Unclosed 3"),
+        ("<p><!doctype", "BadTag 3"),
+        ("<!d", "BadTag 0"),
+        ("<!doctype \u{e9}", "Unclosed 0"),
+        ("<title><", "Unclosed 0"),
+        ("<title></", "Unclosed 0"),
+        ("<title>\u{e9}</title/", "BadTag 16"),
+        ("<script></", "Unclosed 0"),
+        ("<style></style\t", "Unclosed 7"),
+        (
+            "<p><script>1</script>",
+            "<p><script>1</script></p>{1}Unclosed 0",
+        ),
+    ];
+    assert_eq!(rt; first_wrong(&rt, rt.alloc(), &rows)?, "no page");
+    Ok(())
+}
