@@ -1,5 +1,5 @@
 -- What a chain answers where an element's place stands next and no level is left for it.
-use Rattle.std.proofs.Common.{◌≡◌, ℕ, suc, Bool, Result, Err, sym, ap, ◌∙◌}
+use Rattle.std.proofs.Common.{ℕ, suc, Bool, Err, sym, ap, ◌∙◌}
 use Rattle.js_syntax.specs.declared.token.Token.{Token}
 use Rattle.js_syntax.specs.Symbols.{Tokens}
 use Rattle.token_readers.specs.Readers.{Reader, chain}

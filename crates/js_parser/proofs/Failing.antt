@@ -1,5 +1,5 @@
 -- What is read of a script whose statements fail.
-use Rattle.std.proofs.Common.{◌≡◌, ℕ, List, Result, Err, ap, subst, ◌∙◌, sym}
+use Rattle.std.proofs.Common.{◌≡◌, ℕ, Err, ap, subst, ◌∙◌, sym}
 use Rattle.js_syntax.specs.declared.parse_fault.ParseKind.{ParseKind}
 use Rattle.js_syntax.specs.Symbols.{Tokens}
 use Rattle.script_readers.specs.Statements.{top, finish_after, script}

@@ -1,18 +1,17 @@
 //! Statements one after another, and blocks (ECMAScript, 14.2).
 ghost use Rattle.script_pieces.specs.Reads.{Reads};
-ghost use Rattle.js_parser.specs.Nests.{Deeper};
 ghost use Rattle.script_readers.specs.Statements as spec;
 ghost use Rattle.js_syntax.specs.Words.{closes_body};
 ghost use Rattle.script_readers.specs.Expressions.{each};
 
-use crate::level::{CHAINS, Form, Level, Part};
+use crate::level::{CHAINS, Form, Level, Nests, Part};
 use js_syntax::{Expr, Property, Stmt, Symbol};
 use script_pieces::{Cursor, Failed};
-use sqlite_items::Items;
+use sqlite_items::{Boxed, Items};
 use std::alloc::Global;
 
 impl<
-    E: Fn(Global, &mut Cursor<'_>, usize, Part) -> Result<Expr, Failed>,
+    E: Fn(Global, &mut Cursor<'_>, usize, Part) -> Result<Boxed<Expr>, Failed>,
     M: Fn(Global, &mut Cursor<'_>, usize) -> Result<Property, Failed>,
     S: Fn(Global, &mut Cursor<'_>, usize, Form, bool, bool) -> Result<Stmt, Failed>,
 > Level<E, M, S> {
@@ -24,7 +23,7 @@ impl<
         in_function: bool,
         in_loop: bool,
     ) -> Result<Items<Stmt>, Failed>
-        requires { Deeper self.now.left (E.pre self.now.expr) (E.post self.now.expr) (M.pre self.now.member) (M.post self.now.member) (S.pre self.now.stmt) (S.post self.now.stmt) }
+        requires { ⟦<Self as Nests>⟧.nests self.now }
         ensures { Reads (each closes_body ((spec.within CHAINS self.now.left).stmt in_function in_loop) tokens.old) result tokens.new }
     {
         let mut found = Items::new(self.alloc);
@@ -46,7 +45,7 @@ impl<
         in_function: bool,
         in_loop: bool,
     ) -> Result<Stmt, Failed>
-        requires { Deeper self.now.left (E.pre self.now.expr) (E.post self.now.expr) (M.pre self.now.member) (M.post self.now.member) (S.pre self.now.stmt) (S.post self.now.stmt) }
+        requires { ⟦<Self as Nests>⟧.nests self.now }
         ensures { Reads (spec.block_rest (spec.within CHAINS self.now.left) in_function in_loop tokens.old) result tokens.new }
     {
         let body = self.statements(tokens, in_function, in_loop)?;
@@ -62,7 +61,7 @@ impl<
         in_function: bool,
         in_loop: bool,
     ) -> Result<Stmt, Failed>
-        requires { Deeper self.now.left (E.pre self.now.expr) (E.post self.now.expr) (M.pre self.now.member) (M.post self.now.member) (S.pre self.now.stmt) (S.post self.now.stmt) }
+        requires { ⟦<Self as Nests>⟧.nests self.now }
         ensures { Reads (spec.block (spec.within CHAINS self.now.left) in_function in_loop tokens.old) result tokens.new }
     {
         tokens.expect(Symbol::OpenBrace)?;

@@ -1,16 +1,15 @@
 //! `try` (ECMAScript, 14.15).
 ghost use Rattle.script_pieces.specs.Reads.{Reads};
-ghost use Rattle.js_parser.specs.Nests.{Deeper};
 ghost use Rattle.script_readers.specs.Statements as spec;
 
-use crate::level::{CHAINS, Form, Level, Part};
+use crate::level::{CHAINS, Form, Level, Nests, Part};
 use js_syntax::{Catch, Expr, ParseKind, Property, Stmt, Symbol};
 use script_pieces::{Cursor, Failed, name};
 use sqlite_items::Boxed;
 use std::alloc::Global;
 
 impl<
-    E: Fn(Global, &mut Cursor<'_>, usize, Part) -> Result<Expr, Failed>,
+    E: Fn(Global, &mut Cursor<'_>, usize, Part) -> Result<Boxed<Expr>, Failed>,
     M: Fn(Global, &mut Cursor<'_>, usize) -> Result<Property, Failed>,
     S: Fn(Global, &mut Cursor<'_>, usize, Form, bool, bool) -> Result<Stmt, Failed>,
 > Level<E, M, S> {
@@ -24,7 +23,7 @@ impl<
         tried: Boxed<Stmt>,
         catch: Option<Catch>,
     ) -> Result<Stmt, Failed>
-        requires { Deeper self.now.left (E.pre self.now.expr) (E.post self.now.expr) (M.pre self.now.member) (M.post self.now.member) (S.pre self.now.stmt) (S.post self.now.stmt) }
+        requires { ⟦<Self as Nests>⟧.nests self.now }
         ensures { Reads (spec.finished (spec.within CHAINS self.now.left) in_function in_loop tried catch tokens.old) result tokens.new }
     {
         let last = self.block(tokens, in_function, in_loop)?;
@@ -42,7 +41,7 @@ impl<
         tried: Boxed<Stmt>,
         catch: Catch,
     ) -> Result<Stmt, Failed>
-        requires { Deeper self.now.left (E.pre self.now.expr) (E.post self.now.expr) (M.pre self.now.member) (M.post self.now.member) (S.pre self.now.stmt) (S.post self.now.stmt) }
+        requires { ⟦<Self as Nests>⟧.nests self.now }
         ensures { Reads (spec.handled (spec.within CHAINS self.now.left) in_function in_loop tried catch tokens.old) result tokens.new }
     {
         if let Some(_) = tokens.eat(Symbol::Finally) {
@@ -60,7 +59,7 @@ impl<
         in_loop: bool,
         tried: Boxed<Stmt>,
     ) -> Result<Stmt, Failed>
-        requires { Deeper self.now.left (E.pre self.now.expr) (E.post self.now.expr) (M.pre self.now.member) (M.post self.now.member) (S.pre self.now.stmt) (S.post self.now.stmt) }
+        requires { ⟦<Self as Nests>⟧.nests self.now }
         ensures { Reads (spec.catch_ (spec.within CHAINS self.now.left) in_function in_loop tried tokens.old) result tokens.new }
     {
         tokens.expect(Symbol::Open)?;
@@ -80,7 +79,7 @@ impl<
         in_loop: bool,
         tried: Boxed<Stmt>,
     ) -> Result<Stmt, Failed>
-        requires { Deeper self.now.left (E.pre self.now.expr) (E.post self.now.expr) (M.pre self.now.member) (M.post self.now.member) (S.pre self.now.stmt) (S.post self.now.stmt) }
+        requires { ⟦<Self as Nests>⟧.nests self.now }
         ensures { Reads (spec.handlers (spec.within CHAINS self.now.left) in_function in_loop tried tokens.old) result tokens.new }
     {
         if let Some(_) = tokens.eat(Symbol::Catch) {
@@ -100,7 +99,7 @@ impl<
         in_function: bool,
         in_loop: bool,
     ) -> Result<Stmt, Failed>
-        requires { Deeper self.now.left (E.pre self.now.expr) (E.post self.now.expr) (M.pre self.now.member) (M.post self.now.member) (S.pre self.now.stmt) (S.post self.now.stmt) }
+        requires { ⟦<Self as Nests>⟧.nests self.now }
         ensures { Reads (spec.try_ (spec.within CHAINS self.now.left) in_function in_loop tokens.old) result tokens.new }
     {
         let tried = self.block(tokens, in_function, in_loop)?;

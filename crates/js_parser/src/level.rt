@@ -7,6 +7,7 @@ ghost use Rattle.script_readers.specs.Statements as spec;
 
 use js_syntax::{Expr, ParseKind, Property, Stmt};
 use script_pieces::{Cursor, Failed};
+use sqlite_items::Boxed;
 use std::alloc::Global;
 
 /// How many operators a chain and how many suffixes an expression may have.
@@ -50,6 +51,28 @@ pub struct Level<E, M, S> {
     pub stmt: S,
 }
 
+/// Readers of what stands one level deeper. A clause can name what they promise where it is a member of
+/// a trait that has a method.
+pub trait Nests {
+    /// They read it as the grammar says.
+    ghost nests: { Self → Type 0 };
+
+    /// How many levels deeper a part of it may go.
+    fn left(&self) -> usize;
+}
+
+impl<
+    E: Fn(Global, &mut Cursor<'_>, usize, Part) -> Result<Boxed<Expr>, Failed>,
+    M: Fn(Global, &mut Cursor<'_>, usize) -> Result<Property, Failed>,
+    S: Fn(Global, &mut Cursor<'_>, usize, Form, bool, bool) -> Result<Stmt, Failed>,
+> Nests for Level<E, M, S> {
+    ghost nests = { λ l. Deeper l.left (E.pre l.expr) (E.post l.expr) (M.pre l.member) (M.post l.member) (S.pre l.stmt) (S.post l.stmt) };
+
+    fn left(&self) -> usize {
+        self.left
+    }
+}
+
 /// The fault at a part past the last level.
 pub fn refuse_part(begins: bool) -> Failed
     ensures { result ≡ (if begins then Failed.Fault ParseKind.TooDeep else Failed.Fault ParseKind.Unexpected) }
@@ -62,45 +85,45 @@ pub fn refuse_part(begins: bool) -> Failed
 }
 
 impl<
-    E: Fn(Global, &mut Cursor<'_>, usize, Part) -> Result<Expr, Failed>,
+    E: Fn(Global, &mut Cursor<'_>, usize, Part) -> Result<Boxed<Expr>, Failed>,
     M: Fn(Global, &mut Cursor<'_>, usize) -> Result<Property, Failed>,
     S: Fn(Global, &mut Cursor<'_>, usize, Form, bool, bool) -> Result<Stmt, Failed>,
 > Level<E, M, S> {
     /// An expression one level deeper.
-    pub fn expr(&self, tokens: &mut Cursor<'_>, in_is: bool) -> Result<Expr, Failed>
-        requires { Deeper self.now.left (E.pre self.now.expr) (E.post self.now.expr) (M.pre self.now.member) (M.post self.now.member) (S.pre self.now.stmt) (S.post self.now.stmt) }
+    pub fn expr(&self, tokens: &mut Cursor<'_>, in_is: bool) -> Result<Boxed<Expr>, Failed>
+        requires { ⟦<Self as Nests>⟧.nests self.now }
         ensures { Reads ((spec.within CHAINS self.now.left).expr in_is tokens.old) result tokens.new }
     {
         (self.expr)(self.alloc, tokens, self.left, Part::Whole(in_is))
     }
 
     /// The operand of an operator before it, one level deeper.
-    pub fn operand(&self, tokens: &mut Cursor<'_>) -> Result<Expr, Failed>
-        requires { Deeper self.now.left (E.pre self.now.expr) (E.post self.now.expr) (M.pre self.now.member) (M.post self.now.member) (S.pre self.now.stmt) (S.post self.now.stmt) }
+    pub fn operand(&self, tokens: &mut Cursor<'_>) -> Result<Boxed<Expr>, Failed>
+        requires { ⟦<Self as Nests>⟧.nests self.now }
         ensures { Reads ((spec.within CHAINS self.now.left).operand tokens.old) result tokens.new }
     {
         (self.expr)(self.alloc, tokens, self.left, Part::Operand)
     }
 
     /// The operand of a `++` or `--` before it, one level deeper.
-    pub fn target(&self, tokens: &mut Cursor<'_>) -> Result<Expr, Failed>
-        requires { Deeper self.now.left (E.pre self.now.expr) (E.post self.now.expr) (M.pre self.now.member) (M.post self.now.member) (S.pre self.now.stmt) (S.post self.now.stmt) }
+    pub fn target(&self, tokens: &mut Cursor<'_>) -> Result<Boxed<Expr>, Failed>
+        requires { ⟦<Self as Nests>⟧.nests self.now }
         ensures { Reads ((spec.within CHAINS self.now.left).target tokens.old) result tokens.new }
     {
         (self.expr)(self.alloc, tokens, self.left, Part::Target)
     }
 
     /// What a `new` is applied to, one level deeper.
-    pub fn callee_below(&self, tokens: &mut Cursor<'_>) -> Result<Expr, Failed>
-        requires { Deeper self.now.left (E.pre self.now.expr) (E.post self.now.expr) (M.pre self.now.member) (M.post self.now.member) (S.pre self.now.stmt) (S.post self.now.stmt) }
+    pub fn callee_below(&self, tokens: &mut Cursor<'_>) -> Result<Boxed<Expr>, Failed>
+        requires { ⟦<Self as Nests>⟧.nests self.now }
         ensures { Reads ((spec.within CHAINS self.now.left).callee tokens.old) result tokens.new }
     {
         (self.expr)(self.alloc, tokens, self.left, Part::Callee)
     }
 
     /// What a `new` is applied to in the operand of a `++` or `--`, one level deeper.
-    pub fn applied_below(&self, tokens: &mut Cursor<'_>) -> Result<Expr, Failed>
-        requires { Deeper self.now.left (E.pre self.now.expr) (E.post self.now.expr) (M.pre self.now.member) (M.post self.now.member) (S.pre self.now.stmt) (S.post self.now.stmt) }
+    pub fn applied_below(&self, tokens: &mut Cursor<'_>) -> Result<Boxed<Expr>, Failed>
+        requires { ⟦<Self as Nests>⟧.nests self.now }
         ensures { Reads ((spec.within CHAINS self.now.left).applied tokens.old) result tokens.new }
     {
         (self.expr)(self.alloc, tokens, self.left, Part::Applied)
@@ -108,7 +131,7 @@ impl<
 
     /// A member of an object literal, one level deeper.
     pub fn member_below(&self, tokens: &mut Cursor<'_>) -> Result<Property, Failed>
-        requires { Deeper self.now.left (E.pre self.now.expr) (E.post self.now.expr) (M.pre self.now.member) (M.post self.now.member) (S.pre self.now.stmt) (S.post self.now.stmt) }
+        requires { ⟦<Self as Nests>⟧.nests self.now }
         ensures { Reads ((spec.within CHAINS self.now.left).member tokens.old) result tokens.new }
     {
         (self.member)(self.alloc, tokens, self.left)
@@ -121,7 +144,7 @@ impl<
         in_function: bool,
         in_loop: bool,
     ) -> Result<Stmt, Failed>
-        requires { Deeper self.now.left (E.pre self.now.expr) (E.post self.now.expr) (M.pre self.now.member) (M.post self.now.member) (S.pre self.now.stmt) (S.post self.now.stmt) }
+        requires { ⟦<Self as Nests>⟧.nests self.now }
         ensures { Reads ((spec.within CHAINS self.now.left).stmt in_function in_loop tokens.old) result tokens.new }
     {
         (self.stmt)(
@@ -141,7 +164,7 @@ impl<
         in_function: bool,
         in_loop: bool,
     ) -> Result<Stmt, Failed>
-        requires { Deeper self.now.left (E.pre self.now.expr) (E.post self.now.expr) (M.pre self.now.member) (M.post self.now.member) (S.pre self.now.stmt) (S.post self.now.stmt) }
+        requires { ⟦<Self as Nests>⟧.nests self.now }
         ensures { Reads ((spec.within CHAINS self.now.left).block in_function in_loop tokens.old) result tokens.new }
     {
         (self.stmt)(

@@ -1,24 +1,38 @@
 //! `for` (ECMAScript, 14.7.4 and 14.7.5).
+ghost use Rattle.std.specs.Prelude.{◌≡◌};
 ghost use Rattle.script_pieces.specs.Reads.{Reads};
-ghost use Rattle.js_parser.specs.Nests.{Deeper};
 ghost use Rattle.js_parser.specs.Heads as heads;
 ghost use Rattle.script_readers.specs.Statements as spec;
 
-use crate::level::{CHAINS, Form, Level, Part};
+use crate::level::{CHAINS, Form, Level, Nests, Part};
 use js_syntax::{Declaration, Expr, ForStart, ForTarget, Property, Stmt, Symbol};
-use script_pieces::{Cursor, Failed, Head, KeysHead, make, name, turned, turned_over};
-use sqlite_items::Items;
+use script_pieces::{Cursor, Failed, make, name};
+use sqlite_items::{Boxed, Items};
 use std::alloc::Global;
 
+/// What a box holds, where there is one.
+fn unboxed(value: Option<Boxed<Expr>>) -> Option<Expr>
+    ensures { result ≡ value }
+{
+    match value {
+        Some(boxed) => Some(boxed.into_inner()),
+        None => None,
+    }
+}
+
 impl<
-    E: Fn(Global, &mut Cursor<'_>, usize, Part) -> Result<Expr, Failed>,
+    E: Fn(Global, &mut Cursor<'_>, usize, Part) -> Result<Boxed<Expr>, Failed>,
     M: Fn(Global, &mut Cursor<'_>, usize) -> Result<Property, Failed>,
     S: Fn(Global, &mut Cursor<'_>, usize, Form, bool, bool) -> Result<Stmt, Failed>,
 > Level<E, M, S> {
     /// An expression and the token that closes it, or that token alone.
     #[tactic(auto, unfolding(script_readers::specs::Statements::optional))]
-    pub fn optional(&self, tokens: &mut Cursor<'_>, close: Symbol) -> Result<Option<Expr>, Failed>
-        requires { Deeper self.now.left (E.pre self.now.expr) (E.post self.now.expr) (M.pre self.now.member) (M.post self.now.member) (S.pre self.now.stmt) (S.post self.now.stmt) }
+    pub fn optional(
+        &self,
+        tokens: &mut Cursor<'_>,
+        close: Symbol,
+    ) -> Result<Option<Boxed<Expr>>, Failed>
+        requires { ⟦<Self as Nests>⟧.nests self.now }
         ensures { Reads (spec.optional CHAINS self.now.left (spec.within CHAINS self.now.left) close tokens.old) result tokens.new }
     {
         if let Some(_) = tokens.eat(close) {
@@ -34,13 +48,17 @@ impl<
         &self,
         tokens: &mut Cursor<'_>,
         in_function: bool,
-        head: Head,
+        start: Boxed<ForStart>,
+        test: Option<Boxed<Expr>>,
+        step: Option<Boxed<Expr>>,
     ) -> Result<Stmt, Failed>
-        requires { Deeper self.now.left (E.pre self.now.expr) (E.post self.now.expr) (M.pre self.now.member) (M.post self.now.member) (S.pre self.now.stmt) (S.post self.now.stmt) }
-        ensures { Reads (heads.for_body (spec.within CHAINS self.now.left) in_function head.start head.test head.step tokens.old) result tokens.new }
+        requires { ⟦<Self as Nests>⟧.nests self.now }
+        ensures { Reads (heads.for_body (spec.within CHAINS self.now.left) in_function start test step tokens.old) result tokens.new }
     {
         let body = self.stmt(tokens, in_function, true)?;
-        Ok(turned(self.alloc, head, body)?)
+        let body = Boxed::new(self.alloc, body)?;
+        let (test, step) = (unboxed(test), unboxed(step));
+        Ok(Stmt::For(start.into_inner(), test, step, body))
     }
 
     /// A `for` behind the second semicolon of its head.
@@ -48,14 +66,14 @@ impl<
         &self,
         tokens: &mut Cursor<'_>,
         in_function: bool,
-        start: ForStart,
-        test: Option<Expr>,
+        start: Boxed<ForStart>,
+        test: Option<Boxed<Expr>>,
     ) -> Result<Stmt, Failed>
-        requires { Deeper self.now.left (E.pre self.now.expr) (E.post self.now.expr) (M.pre self.now.member) (M.post self.now.member) (S.pre self.now.stmt) (S.post self.now.stmt) }
+        requires { ⟦<Self as Nests>⟧.nests self.now }
         ensures { Reads (heads.for_step CHAINS self.now.left (spec.within CHAINS self.now.left) in_function start test tokens.old) result tokens.new }
     {
         let step = self.optional(tokens, Symbol::Close)?;
-        self.for_body(tokens, in_function, Head { start, test, step })
+        self.for_body(tokens, in_function, start, test, step)
     }
 
     /// A `for` behind the first semicolon of its head.
@@ -64,9 +82,9 @@ impl<
         &self,
         tokens: &mut Cursor<'_>,
         in_function: bool,
-        start: ForStart,
+        start: Boxed<ForStart>,
     ) -> Result<Stmt, Failed>
-        requires { Deeper self.now.left (E.pre self.now.expr) (E.post self.now.expr) (M.pre self.now.member) (M.post self.now.member) (S.pre self.now.stmt) (S.post self.now.stmt) }
+        requires { ⟦<Self as Nests>⟧.nests self.now }
         ensures { Reads (spec.for_rest CHAINS self.now.left (spec.within CHAINS self.now.left) in_function start tokens.old) result tokens.new }
     {
         let test = self.optional(tokens, Symbol::Semicolon)?;
@@ -78,13 +96,15 @@ impl<
         &self,
         tokens: &mut Cursor<'_>,
         in_function: bool,
-        head: KeysHead,
+        target: Boxed<ForTarget>,
+        object: Boxed<Expr>,
     ) -> Result<Stmt, Failed>
-        requires { Deeper self.now.left (E.pre self.now.expr) (E.post self.now.expr) (M.pre self.now.member) (M.post self.now.member) (S.pre self.now.stmt) (S.post self.now.stmt) }
-        ensures { Reads (heads.each_key (spec.within CHAINS self.now.left) in_function head.target head.object tokens.old) result tokens.new }
+        requires { ⟦<Self as Nests>⟧.nests self.now }
+        ensures { Reads (heads.each_key (spec.within CHAINS self.now.left) in_function target object tokens.old) result tokens.new }
     {
         let body = self.stmt(tokens, in_function, true)?;
-        Ok(turned_over(self.alloc, head, body)?)
+        let body = Boxed::new(self.alloc, body)?;
+        Ok(Stmt::ForIn(target.into_inner(), object.into_inner(), body))
     }
 
     /// A `for` over keys behind its `in`.
@@ -93,14 +113,14 @@ impl<
         &self,
         tokens: &mut Cursor<'_>,
         in_function: bool,
-        target: ForTarget,
+        target: Boxed<ForTarget>,
     ) -> Result<Stmt, Failed>
-        requires { Deeper self.now.left (E.pre self.now.expr) (E.post self.now.expr) (M.pre self.now.member) (M.post self.now.member) (S.pre self.now.stmt) (S.post self.now.stmt) }
+        requires { ⟦<Self as Nests>⟧.nests self.now }
         ensures { Reads (spec.over_keys CHAINS self.now.left (spec.within CHAINS self.now.left) in_function target tokens.old) result tokens.new }
     {
         let object = self.assign(tokens, true)?;
         tokens.expect(Symbol::Close)?;
-        self.each_key(tokens, in_function, KeysHead { target, object })
+        self.each_key(tokens, in_function, target, object)
     }
 
     /// A `for` behind the first declaration of its head.
@@ -111,28 +131,31 @@ impl<
         in_function: bool,
         first: Declaration,
     ) -> Result<Stmt, Failed>
-        requires { Deeper self.now.left (E.pre self.now.expr) (E.post self.now.expr) (M.pre self.now.member) (M.post self.now.member) (S.pre self.now.stmt) (S.post self.now.stmt) }
+        requires { ⟦<Self as Nests>⟧.nests self.now }
         ensures { Reads (spec.for_variables CHAINS self.now.left (spec.within CHAINS self.now.left) in_function first tokens.old) result tokens.new }
     {
         let mut found = Items::new(self.alloc);
         found.push(first)?;
         let all = self.more_declared(tokens, false, found)?;
         tokens.expect(Symbol::Semicolon)?;
-        self.for_rest(tokens, in_function, ForStart::Var(all))
+        let start = Boxed::new(self.alloc, ForStart::Var(all))?;
+        self.for_rest(tokens, in_function, start)
     }
 
     /// A `for` behind the `var` of its head.
     #[tactic(auto, unfolding(script_readers::specs::Statements::for_variable))]
     pub fn for_variable(&self, tokens: &mut Cursor<'_>, in_function: bool) -> Result<Stmt, Failed>
-        requires { Deeper self.now.left (E.pre self.now.expr) (E.post self.now.expr) (M.pre self.now.member) (M.post self.now.member) (S.pre self.now.stmt) (S.post self.now.stmt) }
+        requires { ⟦<Self as Nests>⟧.nests self.now }
         ensures { Reads (spec.for_variable CHAINS self.now.left (spec.within CHAINS self.now.left) in_function tokens.old) result tokens.new }
     {
         let name = name(tokens)?;
         if let Some(_) = tokens.eat(Symbol::In) {
-            return self.over_keys(tokens, in_function, ForTarget::Var(name));
+            let target = Boxed::new(self.alloc, ForTarget::Var(name))?;
+            return self.over_keys(tokens, in_function, target);
         }
         if let Some(_) = tokens.eat(Symbol::Assign) {
-            let value = Some(self.assign(tokens, false)?);
+            let value = self.assign(tokens, false)?;
+            let value = Some(value.into_inner());
             return self.for_variables(tokens, in_function, Declaration { name, value });
         }
         self.for_variables(tokens, in_function, Declaration { name, value: None })
@@ -141,25 +164,30 @@ impl<
     /// A `for` whose head begins with an expression.
     #[tactic(auto, unfolding(script_readers::specs::Statements::for_expression))]
     pub fn for_expression(&self, tokens: &mut Cursor<'_>, in_function: bool) -> Result<Stmt, Failed>
-        requires { Deeper self.now.left (E.pre self.now.expr) (E.post self.now.expr) (M.pre self.now.member) (M.post self.now.member) (S.pre self.now.stmt) (S.post self.now.stmt) }
+        requires { ⟦<Self as Nests>⟧.nests self.now }
         ensures { Reads (spec.for_expression CHAINS self.now.left (spec.within CHAINS self.now.left) in_function tokens.old) result tokens.new }
     {
         let first = self.assign(tokens, false)?;
-        if let Some(_) = tokens.eat_where(Symbol::In, make::is_target(&first)) {
-            return self.over_keys(tokens, in_function, ForTarget::Expression(first));
+        if let Some(_) = tokens.eat_where(Symbol::In, make::is_target(first.get())) {
+            let target = ForTarget::Expression(first.into_inner());
+            let target = Boxed::new(self.alloc, target)?;
+            return self.over_keys(tokens, in_function, target);
         }
         tokens.expect(Symbol::Semicolon)?;
-        self.for_rest(tokens, in_function, ForStart::Expression(first))
+        let start = ForStart::Expression(first.into_inner());
+        let start = Boxed::new(self.alloc, start)?;
+        self.for_rest(tokens, in_function, start)
     }
 
     /// A `for` behind the bracket of its head.
     #[tactic(auto, unfolding(script_readers::specs::Statements::for_head))]
     pub fn for_head(&self, tokens: &mut Cursor<'_>, in_function: bool) -> Result<Stmt, Failed>
-        requires { Deeper self.now.left (E.pre self.now.expr) (E.post self.now.expr) (M.pre self.now.member) (M.post self.now.member) (S.pre self.now.stmt) (S.post self.now.stmt) }
+        requires { ⟦<Self as Nests>⟧.nests self.now }
         ensures { Reads (spec.for_head CHAINS self.now.left (spec.within CHAINS self.now.left) in_function tokens.old) result tokens.new }
     {
         if let Some(_) = tokens.eat(Symbol::Semicolon) {
-            return self.for_rest(tokens, in_function, ForStart::Nothing);
+            let start = Boxed::new(self.alloc, ForStart::Nothing)?;
+            return self.for_rest(tokens, in_function, start);
         }
         if let Some(_) = tokens.eat(Symbol::Var) {
             return self.for_variable(tokens, in_function);
@@ -170,7 +198,7 @@ impl<
     /// A `for` behind its word.
     #[tactic(auto, unfolding(script_readers::specs::Statements::each_turn))]
     pub fn each_turn(&self, tokens: &mut Cursor<'_>, in_function: bool) -> Result<Stmt, Failed>
-        requires { Deeper self.now.left (E.pre self.now.expr) (E.post self.now.expr) (M.pre self.now.member) (M.post self.now.member) (S.pre self.now.stmt) (S.post self.now.stmt) }
+        requires { ⟦<Self as Nests>⟧.nests self.now }
         ensures { Reads (spec.each_turn CHAINS self.now.left (spec.within CHAINS self.now.left) in_function tokens.old) result tokens.new }
     {
         tokens.expect(Symbol::Open)?;

@@ -4,57 +4,61 @@ ghost use Rattle.js_syntax.specs.Symbols.{among, next, sees};
 ghost use Rattle.js_syntax.specs.Words as words;
 ghost use Rattle.token_readers.specs.Readers.{chain};
 ghost use Rattle.script_pieces.specs.Reads.{Begins, Reads, Takes};
-ghost use Rattle.js_parser.specs.Nests.{Deeper};
 ghost use Rattle.script_readers.specs.Expressions as ex;
 ghost use Rattle.js_parser.specs.Pieces as pieces;
 ghost use Rattle.script_readers.specs.Statements as spec;
 
-use crate::level::{CHAINS, Form, Level, Part};
+use crate::level::{CHAINS, Form, Level, Nests, Part};
 use js_syntax::{Expr, ParseKind, Property, Stmt, Symbol, Token};
 use script_pieces::{Cursor, Failed, Set, begin_assign, eat_postfix, make};
+use sqlite_items::Boxed;
 use std::alloc::Global;
 
 /// How many levels of left chains there are, strongest first.
 const LEVELS_OF_CHAINS: u8 = 6;
 
 impl<
-    E: Fn(Global, &mut Cursor<'_>, usize, Part) -> Result<Expr, Failed>,
+    E: Fn(Global, &mut Cursor<'_>, usize, Part) -> Result<Boxed<Expr>, Failed>,
     M: Fn(Global, &mut Cursor<'_>, usize) -> Result<Property, Failed>,
     S: Fn(Global, &mut Cursor<'_>, usize, Form, bool, bool) -> Result<Stmt, Failed>,
 > Level<E, M, S> {
     /// An expression with suffixes, and a `++` or `--` behind it.
     #[tactic(auto, unfolding(script_readers::specs::Expressions::postfix))]
-    pub fn postfix(&self, tokens: &mut Cursor<'_>) -> Result<Expr, Failed>
-        requires { Deeper self.now.left (E.pre self.now.expr) (E.post self.now.expr) (M.pre self.now.member) (M.post self.now.member) (S.pre self.now.stmt) (S.post self.now.stmt) }
+    pub fn postfix(&self, tokens: &mut Cursor<'_>) -> Result<Boxed<Expr>, Failed>
+        requires { ⟦<Self as Nests>⟧.nests self.now }
         ensures { Reads (ex.postfix CHAINS self.now.left (spec.within CHAINS self.now.left) tokens.old) result tokens.new }
     {
         let operand = self.suffixed(tokens)?;
-        match eat_postfix(tokens, &operand) {
-            Some(token) => Ok(make::postfix(self.alloc, token.symbol(), operand)?),
+        match eat_postfix(tokens, operand.get()) {
+            Some(mark) => {
+                let operator = make::update_of(mark.symbol());
+                Ok(Boxed::new(self.alloc, Expr::Postfix(operator, operand))?)
+            }
             None => Ok(operand),
         }
     }
 
-    fn prefixed_by(&self, tokens: &mut Cursor<'_>, mark: &Token) -> Result<Expr, Failed>
-        requires { Deeper self.now.left (E.pre self.now.expr) (E.post self.now.expr) (M.pre self.now.member) (M.post self.now.member) (S.pre self.now.stmt) (S.post self.now.stmt) }
+    fn prefixed_by(&self, tokens: &mut Cursor<'_>, mark: &Token) -> Result<Boxed<Expr>, Failed>
+        requires { ⟦<Self as Nests>⟧.nests self.now }
         ensures { Reads (pieces.prefixed_by (spec.within CHAINS self.now.left) mark.now tokens.old) result tokens.new }
     {
         let operand = self.operand(tokens)?;
-        Ok(make::prefixed(self.alloc, mark.symbol(), operand)?)
+        Ok(Boxed::new(self.alloc, make::prefixed(mark.symbol(), operand))?)
     }
 
-    fn updated_by(&self, tokens: &mut Cursor<'_>, mark: &Token) -> Result<Expr, Failed>
-        requires { Deeper self.now.left (E.pre self.now.expr) (E.post self.now.expr) (M.pre self.now.member) (M.post self.now.member) (S.pre self.now.stmt) (S.post self.now.stmt) }
+    fn updated_by(&self, tokens: &mut Cursor<'_>, mark: &Token) -> Result<Boxed<Expr>, Failed>
+        requires { ⟦<Self as Nests>⟧.nests self.now }
         ensures { Reads (pieces.updated_by (spec.within CHAINS self.now.left) mark.now tokens.old) result tokens.new }
     {
         let operand = self.target(tokens)?;
-        Ok(make::update(self.alloc, mark.symbol(), operand)?)
+        let operator = make::update_of(mark.symbol());
+        Ok(Boxed::new(self.alloc, Expr::Prefix(operator, operand))?)
     }
 
     /// An operand with a `++` or `--` before it or behind it, or alone.
     #[tactic(auto, using(script_readers::proofs::Begun::taken, script_readers::proofs::Begun::passed, script_readers::proofs::Begun::refused))]
-    fn updated(&self, tokens: &mut Cursor<'_>) -> Result<Expr, Failed>
-        requires { Deeper self.now.left (E.pre self.now.expr) (E.post self.now.expr) (M.pre self.now.member) (M.post self.now.member) (S.pre self.now.stmt) (S.post self.now.stmt) }
+    fn updated(&self, tokens: &mut Cursor<'_>) -> Result<Boxed<Expr>, Failed>
+        requires { ⟦<Self as Nests>⟧.nests self.now }
         ensures { Reads (pieces.updated CHAINS self.now.left (spec.within CHAINS self.now.left) tokens.old) result tokens.new }
     {
         if let Some(mark) = tokens.begin_any(self.left, Set::Updates)? {
@@ -65,8 +69,8 @@ impl<
 
     /// An operand, with the operators before it.
     #[tactic(auto, unfolding(script_readers::specs::Expressions::unary), using(script_readers::proofs::Begun::taken, script_readers::proofs::Begun::passed, script_readers::proofs::Begun::refused))]
-    pub fn unary(&self, tokens: &mut Cursor<'_>) -> Result<Expr, Failed>
-        requires { Deeper self.now.left (E.pre self.now.expr) (E.post self.now.expr) (M.pre self.now.member) (M.post self.now.member) (S.pre self.now.stmt) (S.post self.now.stmt) }
+    pub fn unary(&self, tokens: &mut Cursor<'_>) -> Result<Boxed<Expr>, Failed>
+        requires { ⟦<Self as Nests>⟧.nests self.now }
         ensures { Reads (ex.unary CHAINS self.now.left (spec.within CHAINS self.now.left) tokens.old) result tokens.new }
     {
         if let Some(mark) = tokens.begin_any(self.left, Set::Prefixes)? {
@@ -78,8 +82,13 @@ impl<
     /// Operands with operators of so many levels between.
     #[cycle(binary)]
     #[tactic(auto, unfolding(script_readers::specs::Expressions::binary, script_readers::specs::Expressions::chained))]
-    fn binary(&self, tokens: &mut Cursor<'_>, in_is: bool, levels: u8) -> Result<Expr, Failed>
-        requires { Deeper self.now.left (E.pre self.now.expr) (E.post self.now.expr) (M.pre self.now.member) (M.post self.now.member) (S.pre self.now.stmt) (S.post self.now.stmt) }
+    fn binary(
+        &self,
+        tokens: &mut Cursor<'_>,
+        in_is: bool,
+        levels: u8,
+    ) -> Result<Boxed<Expr>, Failed>
+        requires { ⟦<Self as Nests>⟧.nests self.now }
         ensures { Reads (ex.binary CHAINS self.now.left (spec.within CHAINS self.now.left) in_is levels tokens.old) result tokens.new }
     {
         if levels == 0 {
@@ -97,15 +106,16 @@ impl<
         tokens: &mut Cursor<'_>,
         in_is: bool,
         level: u8,
-        mut found: Expr,
-    ) -> Result<Expr, Failed>
-        requires { Deeper self.now.left (E.pre self.now.expr) (E.post self.now.expr) (M.pre self.now.member) (M.post self.now.member) (S.pre self.now.stmt) (S.post self.now.stmt) }
+        mut found: Boxed<Expr>,
+    ) -> Result<Boxed<Expr>, Failed>
+        requires { ⟦<Self as Nests>⟧.nests self.now }
         ensures { Reads (chain CHAINS None (among (words.operators in_is level)) (ex.operand_of (ex.binary CHAINS self.now.left (spec.within CHAINS self.now.left) in_is level)) found tokens.old) result tokens.new }
     {
         for _link in 0..CHAINS {
             if let Some(mark) = tokens.eat_any(Set::Operators(in_is, level)) {
                 let operand = self.binary(tokens, in_is, level)?;
-                found = make::operation(self.alloc, mark.symbol(), found, operand)?;
+                let operation = make::operation(mark.symbol(), found, operand);
+                found = Boxed::new(self.alloc, operation)?;
             } else {
                 return Ok(found);
             }
@@ -121,18 +131,18 @@ impl<
         &self,
         tokens: &mut Cursor<'_>,
         in_is: bool,
-        test: Expr,
-        then: Expr,
-    ) -> Result<Expr, Failed>
-        requires { Deeper self.now.left (E.pre self.now.expr) (E.post self.now.expr) (M.pre self.now.member) (M.post self.now.member) (S.pre self.now.stmt) (S.post self.now.stmt) }
+        test: Boxed<Expr>,
+        then: Boxed<Expr>,
+    ) -> Result<Boxed<Expr>, Failed>
+        requires { ⟦<Self as Nests>⟧.nests self.now }
         ensures { Reads (ex.otherwise_of (spec.within CHAINS self.now.left) in_is test then tokens.old) result tokens.new }
     {
         let otherwise = self.expr(tokens, in_is)?;
-        Ok(make::conditional(self.alloc, test, then, otherwise)?)
+        Ok(Boxed::new(self.alloc, Expr::Conditional(test, then, otherwise))?)
     }
 
-    fn choice(&self, tokens: &mut Cursor<'_>, in_is: bool) -> Result<Expr, Failed>
-        requires { Deeper self.now.left (E.pre self.now.expr) (E.post self.now.expr) (M.pre self.now.member) (M.post self.now.member) (S.pre self.now.stmt) (S.post self.now.stmt) }
+    fn choice(&self, tokens: &mut Cursor<'_>, in_is: bool) -> Result<Boxed<Expr>, Failed>
+        requires { ⟦<Self as Nests>⟧.nests self.now }
         ensures { Reads (ex.closed Symbol.Colon ((spec.within CHAINS self.now.left).expr in_is) tokens.old) result tokens.new }
     {
         let then = self.expr(tokens, in_is)?;
@@ -141,8 +151,13 @@ impl<
     }
 
     #[tactic(auto, unfolding(script_readers::specs::Expressions::choices))]
-    fn choices(&self, tokens: &mut Cursor<'_>, in_is: bool, test: Expr) -> Result<Expr, Failed>
-        requires { Deeper self.now.left (E.pre self.now.expr) (E.post self.now.expr) (M.pre self.now.member) (M.post self.now.member) (S.pre self.now.stmt) (S.post self.now.stmt) }
+    fn choices(
+        &self,
+        tokens: &mut Cursor<'_>,
+        in_is: bool,
+        test: Boxed<Expr>,
+    ) -> Result<Boxed<Expr>, Failed>
+        requires { ⟦<Self as Nests>⟧.nests self.now }
         ensures { Reads (ex.choices (spec.within CHAINS self.now.left) in_is test tokens.old) result tokens.new }
     {
         let then = self.choice(tokens, in_is)?;
@@ -150,8 +165,13 @@ impl<
     }
 
     #[tactic(auto, using(script_readers::proofs::Begun::taken, script_readers::proofs::Begun::passed, script_readers::proofs::Begun::refused))]
-    fn chosen(&self, tokens: &mut Cursor<'_>, in_is: bool, test: Expr) -> Result<Expr, Failed>
-        requires { Deeper self.now.left (E.pre self.now.expr) (E.post self.now.expr) (M.pre self.now.member) (M.post self.now.member) (S.pre self.now.stmt) (S.post self.now.stmt) }
+    fn chosen(
+        &self,
+        tokens: &mut Cursor<'_>,
+        in_is: bool,
+        test: Boxed<Expr>,
+    ) -> Result<Boxed<Expr>, Failed>
+        requires { ⟦<Self as Nests>⟧.nests self.now }
         ensures { Reads (pieces.chosen self.now.left (spec.within CHAINS self.now.left) in_is test tokens.old) result tokens.new }
     {
         if let Some(_) = tokens.begin(self.left, Symbol::Question)? {
@@ -162,8 +182,8 @@ impl<
 
     /// A choice between two expressions, or one alone.
     #[tactic(auto, unfolding(script_readers::specs::Expressions::conditional))]
-    fn conditional(&self, tokens: &mut Cursor<'_>, in_is: bool) -> Result<Expr, Failed>
-        requires { Deeper self.now.left (E.pre self.now.expr) (E.post self.now.expr) (M.pre self.now.member) (M.post self.now.member) (S.pre self.now.stmt) (S.post self.now.stmt) }
+    fn conditional(&self, tokens: &mut Cursor<'_>, in_is: bool) -> Result<Boxed<Expr>, Failed>
+        requires { ⟦<Self as Nests>⟧.nests self.now }
         ensures { Reads (ex.conditional CHAINS self.now.left (spec.within CHAINS self.now.left) in_is tokens.old) result tokens.new }
     {
         let test = self.binary(tokens, in_is, LEVELS_OF_CHAINS)?;
@@ -174,22 +194,27 @@ impl<
         &self,
         tokens: &mut Cursor<'_>,
         in_is: bool,
-        target: Expr,
+        target: Boxed<Expr>,
         mark: &Token,
-    ) -> Result<Expr, Failed>
-        requires { Deeper self.now.left (E.pre self.now.expr) (E.post self.now.expr) (M.pre self.now.member) (M.post self.now.member) (S.pre self.now.stmt) (S.post self.now.stmt) }
+    ) -> Result<Boxed<Expr>, Failed>
+        requires { ⟦<Self as Nests>⟧.nests self.now }
         ensures { Reads (pieces.assigned (spec.within CHAINS self.now.left) in_is target mark.now tokens.old) result tokens.new }
     {
         let value = self.expr(tokens, in_is)?;
-        Ok(make::assignment(self.alloc, mark.symbol(), target, value)?)
+        Ok(Boxed::new(self.alloc, make::assignment(mark.symbol(), target, value))?)
     }
 
     #[tactic(auto, using(script_readers::proofs::Begun::taken, script_readers::proofs::Begun::passed, script_readers::proofs::Begun::refused))]
-    fn set_to(&self, tokens: &mut Cursor<'_>, in_is: bool, target: Expr) -> Result<Expr, Failed>
-        requires { Deeper self.now.left (E.pre self.now.expr) (E.post self.now.expr) (M.pre self.now.member) (M.post self.now.member) (S.pre self.now.stmt) (S.post self.now.stmt) }
+    fn set_to(
+        &self,
+        tokens: &mut Cursor<'_>,
+        in_is: bool,
+        target: Boxed<Expr>,
+    ) -> Result<Boxed<Expr>, Failed>
+        requires { ⟦<Self as Nests>⟧.nests self.now }
         ensures { Reads (pieces.set_to self.now.left (spec.within CHAINS self.now.left) in_is target tokens.old) result tokens.new }
     {
-        if let Some(mark) = begin_assign(tokens, self.left, &target)? {
+        if let Some(mark) = begin_assign(tokens, self.left, target.get())? {
             return self.assigned(tokens, in_is, target, mark);
         }
         Ok(target)
@@ -197,8 +222,8 @@ impl<
 
     /// An expression.
     #[tactic(auto, unfolding(script_readers::specs::Expressions::assign))]
-    pub fn assign(&self, tokens: &mut Cursor<'_>, in_is: bool) -> Result<Expr, Failed>
-        requires { Deeper self.now.left (E.pre self.now.expr) (E.post self.now.expr) (M.pre self.now.member) (M.post self.now.member) (S.pre self.now.stmt) (S.post self.now.stmt) }
+    pub fn assign(&self, tokens: &mut Cursor<'_>, in_is: bool) -> Result<Boxed<Expr>, Failed>
+        requires { ⟦<Self as Nests>⟧.nests self.now }
         ensures { Reads (ex.assign CHAINS self.now.left (spec.within CHAINS self.now.left) in_is tokens.old) result tokens.new }
     {
         let target = self.conditional(tokens, in_is)?;

@@ -9,6 +9,7 @@ ghost use Rattle.script_readers.specs.Statements as spec;
 use crate::level::{CHAINS, Form, Level, Part, refuse_part};
 use js_syntax::{Expr, Property, Stmt, Symbol};
 use script_pieces::{Cursor, Failed, Set};
+use sqlite_items::Boxed;
 use std::alloc::Global;
 
 /// Whether such a part begins here.
@@ -38,7 +39,7 @@ pub fn expr(
     tokens: &mut Cursor<'_>,
     levels: usize,
     part: Part,
-) -> Result<Expr, Failed>
+) -> Result<Boxed<Expr>, Failed>
     ensures { Reads (part_of (spec.within CHAINS levels) part tokens.old) result tokens.new }
 {
     if levels == 0 {

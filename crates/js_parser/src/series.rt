@@ -3,18 +3,17 @@ ghost use Rattle.std.specs.Prelude.{true};
 ghost use Rattle.js_syntax.specs.Symbols.{is};
 ghost use Rattle.token_readers.specs.Readers.{repeat};
 ghost use Rattle.script_pieces.specs.Reads.{Reads};
-ghost use Rattle.js_parser.specs.Nests.{Deeper};
 ghost use Rattle.script_readers.specs.Expressions as ex;
 ghost use Rattle.script_readers.specs.Statements as spec;
 
-use crate::level::{CHAINS, Form, Level, Part};
+use crate::level::{CHAINS, Form, Level, Nests, Part};
 use js_syntax::{Expr, Property, Stmt, Symbol};
 use script_pieces::{Cursor, Failed};
-use sqlite_items::Items;
+use sqlite_items::{Boxed, Items};
 use std::alloc::Global;
 
 impl<
-    E: Fn(Global, &mut Cursor<'_>, usize, Part) -> Result<Expr, Failed>,
+    E: Fn(Global, &mut Cursor<'_>, usize, Part) -> Result<Boxed<Expr>, Failed>,
     M: Fn(Global, &mut Cursor<'_>, usize) -> Result<Property, Failed>,
     S: Fn(Global, &mut Cursor<'_>, usize, Form, bool, bool) -> Result<Stmt, Failed>,
 > Level<E, M, S> {
@@ -24,13 +23,13 @@ impl<
         tokens: &mut Cursor<'_>,
         mut found: Items<Expr>,
     ) -> Result<Items<Expr>, Failed>
-        requires { Deeper self.now.left (E.pre self.now.expr) (E.post self.now.expr) (M.pre self.now.member) (M.post self.now.member) (S.pre self.now.stmt) (S.post self.now.stmt) }
+        requires { ⟦<Self as Nests>⟧.nests self.now }
         ensures { Reads (repeat ex.not_comma (ex.next_item ((spec.within CHAINS self.now.left).expr true)) found tokens.old) result tokens.new }
     {
         for _turn in 0..tokens.left() {
             if let Some(_) = tokens.eat(Symbol::Comma) {
                 let item = self.expr(tokens, true)?;
-                found.push(item)?;
+                found.push(item.into_inner())?;
             } else {
                 return Ok(found);
             }
@@ -41,28 +40,18 @@ impl<
     /// Expressions with commas between.
     #[tactic(auto, unfolding(script_readers::specs::Expressions::separated))]
     pub fn exprs(&self, tokens: &mut Cursor<'_>) -> Result<Items<Expr>, Failed>
-        requires { Deeper self.now.left (E.pre self.now.expr) (E.post self.now.expr) (M.pre self.now.member) (M.post self.now.member) (S.pre self.now.stmt) (S.post self.now.stmt) }
+        requires { ⟦<Self as Nests>⟧.nests self.now }
         ensures { Reads (ex.separated ((spec.within CHAINS self.now.left).expr true) tokens.old) result tokens.new }
     {
         let first = self.expr(tokens, true)?;
         let mut found = Items::new(self.alloc);
-        found.push(first)?;
+        found.push(first.into_inner())?;
         self.more_exprs(tokens, found)
     }
 
-    #[tactic(auto, unfolding(script_readers::specs::Expressions::entry))]
-    fn element(&self, tokens: &mut Cursor<'_>) -> Result<Expr, Failed>
-        requires { Deeper self.now.left (E.pre self.now.expr) (E.post self.now.expr) (M.pre self.now.member) (M.post self.now.member) (S.pre self.now.stmt) (S.post self.now.stmt) }
-        ensures { Reads (ex.entry Symbol.CloseBracket ((spec.within CHAINS self.now.left).expr true) tokens.old) result tokens.new }
-    {
-        let item = self.expr(tokens, true)?;
-        tokens.part(Symbol::CloseBracket)?;
-        Ok(item)
-    }
-
-    #[tactic(auto, unfolding(script_readers::specs::Expressions::each, token_readers::specs::Readers::repeat, token_readers::specs::Readers::rounds))]
+    #[tactic(auto, unfolding(script_readers::specs::Expressions::each, script_readers::specs::Expressions::entry, token_readers::specs::Readers::repeat, token_readers::specs::Readers::rounds))]
     fn each_element(&self, tokens: &mut Cursor<'_>) -> Result<Items<Expr>, Failed>
-        requires { Deeper self.now.left (E.pre self.now.expr) (E.post self.now.expr) (M.pre self.now.member) (M.post self.now.member) (S.pre self.now.stmt) (S.post self.now.stmt) }
+        requires { ⟦<Self as Nests>⟧.nests self.now }
         ensures { Reads (ex.each (is Symbol.CloseBracket) (ex.entry Symbol.CloseBracket ((spec.within CHAINS self.now.left).expr true)) tokens.old) result tokens.new }
     {
         let mut found = Items::new(self.alloc);
@@ -70,8 +59,9 @@ impl<
             if tokens.stops(Symbol::CloseBracket) {
                 return Ok(found);
             }
-            let item = self.element(tokens)?;
-            found.push(item)?;
+            let item = self.expr(tokens, true)?;
+            found.push(item.into_inner())?;
+            tokens.part(Symbol::CloseBracket)?;
         }
         Ok(found)
     }
@@ -79,7 +69,7 @@ impl<
     /// The elements of an array, and the bracket behind them.
     #[tactic(auto, unfolding(script_readers::specs::Expressions::listed))]
     pub fn elements(&self, tokens: &mut Cursor<'_>) -> Result<Items<Expr>, Failed>
-        requires { Deeper self.now.left (E.pre self.now.expr) (E.post self.now.expr) (M.pre self.now.member) (M.post self.now.member) (S.pre self.now.stmt) (S.post self.now.stmt) }
+        requires { ⟦<Self as Nests>⟧.nests self.now }
         ensures { Reads (ex.listed Symbol.CloseBracket ((spec.within CHAINS self.now.left).expr true) tokens.old) result tokens.new }
     {
         let found = self.each_element(tokens)?;
@@ -87,19 +77,9 @@ impl<
         Ok(found)
     }
 
-    #[tactic(auto, unfolding(script_readers::specs::Expressions::entry))]
-    fn next_member(&self, tokens: &mut Cursor<'_>) -> Result<Property, Failed>
-        requires { Deeper self.now.left (E.pre self.now.expr) (E.post self.now.expr) (M.pre self.now.member) (M.post self.now.member) (S.pre self.now.stmt) (S.post self.now.stmt) }
-        ensures { Reads (ex.entry Symbol.CloseBrace (spec.within CHAINS self.now.left).member tokens.old) result tokens.new }
-    {
-        let item = self.member_below(tokens)?;
-        tokens.part(Symbol::CloseBrace)?;
-        Ok(item)
-    }
-
-    #[tactic(auto, unfolding(script_readers::specs::Expressions::each, token_readers::specs::Readers::repeat, token_readers::specs::Readers::rounds))]
+    #[tactic(auto, unfolding(script_readers::specs::Expressions::each, script_readers::specs::Expressions::entry, token_readers::specs::Readers::repeat, token_readers::specs::Readers::rounds))]
     fn each_member(&self, tokens: &mut Cursor<'_>) -> Result<Items<Property>, Failed>
-        requires { Deeper self.now.left (E.pre self.now.expr) (E.post self.now.expr) (M.pre self.now.member) (M.post self.now.member) (S.pre self.now.stmt) (S.post self.now.stmt) }
+        requires { ⟦<Self as Nests>⟧.nests self.now }
         ensures { Reads (ex.each (is Symbol.CloseBrace) (ex.entry Symbol.CloseBrace (spec.within CHAINS self.now.left).member) tokens.old) result tokens.new }
     {
         let mut found = Items::new(self.alloc);
@@ -107,8 +87,9 @@ impl<
             if tokens.stops(Symbol::CloseBrace) {
                 return Ok(found);
             }
-            let item = self.next_member(tokens)?;
+            let item = self.member_below(tokens)?;
             found.push(item)?;
+            tokens.part(Symbol::CloseBrace)?;
         }
         Ok(found)
     }
@@ -116,7 +97,7 @@ impl<
     /// The members of an object literal, and the brace behind them.
     #[tactic(auto, unfolding(script_readers::specs::Expressions::listed))]
     pub fn members(&self, tokens: &mut Cursor<'_>) -> Result<Items<Property>, Failed>
-        requires { Deeper self.now.left (E.pre self.now.expr) (E.post self.now.expr) (M.pre self.now.member) (M.post self.now.member) (S.pre self.now.stmt) (S.post self.now.stmt) }
+        requires { ⟦<Self as Nests>⟧.nests self.now }
         ensures { Reads (ex.listed Symbol.CloseBrace (spec.within CHAINS self.now.left).member tokens.old) result tokens.new }
     {
         let found = self.each_member(tokens)?;

@@ -1,29 +1,29 @@
 //! Statements by their first token (ECMAScript, 14).
 ghost use Rattle.script_pieces.specs.Reads.{Reads};
-ghost use Rattle.js_parser.specs.Nests.{Deeper};
 ghost use Rattle.js_syntax.specs.Symbols.{is};
 ghost use Rattle.token_readers.specs.Readers.{begin};
 ghost use Rattle.script_readers.specs.Statements as spec;
 
-use crate::level::{CHAINS, Form, Level, Part};
+use crate::level::{CHAINS, Form, Level, Nests, Part};
 use js_syntax::{Expr, ParseKind, Property, Stmt, Symbol};
 use script_pieces::{Cursor, Failed};
+use sqlite_items::Boxed;
 use std::alloc::Global;
 
 impl<
-    E: Fn(Global, &mut Cursor<'_>, usize, Part) -> Result<Expr, Failed>,
+    E: Fn(Global, &mut Cursor<'_>, usize, Part) -> Result<Boxed<Expr>, Failed>,
     M: Fn(Global, &mut Cursor<'_>, usize) -> Result<Property, Failed>,
     S: Fn(Global, &mut Cursor<'_>, usize, Form, bool, bool) -> Result<Stmt, Failed>,
 > Level<E, M, S> {
     /// An expression as a statement.
     #[tactic(auto, unfolding(script_readers::specs::Statements::plain_statement))]
     pub fn plain_statement(&self, tokens: &mut Cursor<'_>) -> Result<Stmt, Failed>
-        requires { Deeper self.now.left (E.pre self.now.expr) (E.post self.now.expr) (M.pre self.now.member) (M.post self.now.member) (S.pre self.now.stmt) (S.post self.now.stmt) }
+        requires { ⟦<Self as Nests>⟧.nests self.now }
         ensures { Reads (spec.plain_statement CHAINS self.now.left (spec.within CHAINS self.now.left) tokens.old) result tokens.new }
     {
         let value = self.assign(tokens, true)?;
         tokens.ends()?;
-        Ok(Stmt::Expression(value))
+        Ok(Stmt::Expression(value.into_inner()))
     }
 
     /// A `try`, or an expression.
@@ -34,7 +34,7 @@ impl<
         in_function: bool,
         in_loop: bool,
     ) -> Result<Stmt, Failed>
-        requires { Deeper self.now.left (E.pre self.now.expr) (E.post self.now.expr) (M.pre self.now.member) (M.post self.now.member) (S.pre self.now.stmt) (S.post self.now.stmt) }
+        requires { ⟦<Self as Nests>⟧.nests self.now }
         ensures { Reads (begin self.now.left (is Symbol.Try) (λ t. spec.try_ (spec.within CHAINS self.now.left) in_function in_loop) (spec.plain_statement CHAINS self.now.left (spec.within CHAINS self.now.left)) tokens.old) result tokens.new }
     {
         if self.left == 0 && tokens.sees(Symbol::Try) {
@@ -53,7 +53,7 @@ impl<
         in_function: bool,
         in_loop: bool,
     ) -> Result<Stmt, Failed>
-        requires { Deeper self.now.left (E.pre self.now.expr) (E.post self.now.expr) (M.pre self.now.member) (M.post self.now.member) (S.pre self.now.stmt) (S.post self.now.stmt) }
+        requires { ⟦<Self as Nests>⟧.nests self.now }
         ensures { Reads (spec.words_from CHAINS self.now.left (spec.within CHAINS self.now.left) in_function in_loop tokens.old) result tokens.new }
     {
         if let Some(_) = tokens.eat_where(Symbol::Break, in_loop) {
@@ -81,7 +81,7 @@ impl<
         in_function: bool,
         in_loop: bool,
     ) -> Result<Stmt, Failed>
-        requires { Deeper self.now.left (E.pre self.now.expr) (E.post self.now.expr) (M.pre self.now.member) (M.post self.now.member) (S.pre self.now.stmt) (S.post self.now.stmt) }
+        requires { ⟦<Self as Nests>⟧.nests self.now }
         ensures { Reads (spec.nested_from CHAINS self.now.left (spec.within CHAINS self.now.left) in_function in_loop tokens.old) result tokens.new }
     {
         if self.left == 0 && tokens.begins_nested() {
@@ -110,7 +110,7 @@ impl<
         in_function: bool,
         in_loop: bool,
     ) -> Result<Stmt, Failed>
-        requires { Deeper self.now.left (E.pre self.now.expr) (E.post self.now.expr) (M.pre self.now.member) (M.post self.now.member) (S.pre self.now.stmt) (S.post self.now.stmt) }
+        requires { ⟦<Self as Nests>⟧.nests self.now }
         ensures { Reads (spec.statement CHAINS self.now.left (spec.within CHAINS self.now.left) in_function in_loop tokens.old) result tokens.new }
     {
         if let Some(_) = tokens.eat(Symbol::Semicolon) {

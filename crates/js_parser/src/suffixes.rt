@@ -3,25 +3,24 @@ ghost use Rattle.std.specs.Prelude.{true};
 ghost use Rattle.js_syntax.specs.Symbols.{is, among};
 ghost use Rattle.token_readers.specs.Readers.{chain};
 ghost use Rattle.script_pieces.specs.Reads.{Reads};
-ghost use Rattle.js_parser.specs.Nests.{Deeper};
 ghost use Rattle.script_pieces.specs.Sets.{symbols_of};
 ghost use Rattle.script_readers.specs.Expressions as ex;
 ghost use Rattle.js_parser.specs.Pieces as pieces;
 ghost use Rattle.script_readers.specs.Statements as spec;
 
-use crate::level::{CHAINS, Form, Level, Part, refuse_part};
-use js_syntax::{Expr, ParseKind, Property, Stmt, Symbol, Token};
+use crate::level::{CHAINS, Form, Level, Nests, Part, refuse_part};
+use js_syntax::{Expr, ParseKind, Property, Shared, Stmt, Symbol, Token};
 use script_pieces::{Cursor, Failed, Set, is, make, member_of};
-use sqlite_items::Items;
+use sqlite_items::{Boxed, Items};
 use std::alloc::Global;
 
 impl<
-    E: Fn(Global, &mut Cursor<'_>, usize, Part) -> Result<Expr, Failed>,
+    E: Fn(Global, &mut Cursor<'_>, usize, Part) -> Result<Boxed<Expr>, Failed>,
     M: Fn(Global, &mut Cursor<'_>, usize) -> Result<Property, Failed>,
     S: Fn(Global, &mut Cursor<'_>, usize, Form, bool, bool) -> Result<Stmt, Failed>,
 > Level<E, M, S> {
     fn closed_exprs(&self, tokens: &mut Cursor<'_>) -> Result<Items<Expr>, Failed>
-        requires { Deeper self.now.left (E.pre self.now.expr) (E.post self.now.expr) (M.pre self.now.member) (M.post self.now.member) (S.pre self.now.stmt) (S.post self.now.stmt) }
+        requires { ⟦<Self as Nests>⟧.nests self.now }
         ensures { Reads (pieces.some_arguments (spec.within CHAINS self.now.left) tokens.old) result tokens.new }
     {
         let all = self.exprs(tokens)?;
@@ -32,7 +31,7 @@ impl<
     /// The arguments of a call, and the bracket behind them.
     #[tactic(auto, unfolding(script_readers::specs::Expressions::arguments, token_readers::specs::Readers::above))]
     pub fn arguments(&self, tokens: &mut Cursor<'_>) -> Result<Items<Expr>, Failed>
-        requires { Deeper self.now.left (E.pre self.now.expr) (E.post self.now.expr) (M.pre self.now.member) (M.post self.now.member) (S.pre self.now.stmt) (S.post self.now.stmt) }
+        requires { ⟦<Self as Nests>⟧.nests self.now }
         ensures { Reads (ex.arguments self.now.left (spec.within CHAINS self.now.left) tokens.old) result tokens.new }
     {
         if let Some(_) = tokens.eat(Symbol::Close) {
@@ -45,8 +44,8 @@ impl<
     }
 
     /// An expression one level deeper, and a token that closes it.
-    pub fn closed(&self, tokens: &mut Cursor<'_>, close: Symbol) -> Result<Expr, Failed>
-        requires { Deeper self.now.left (E.pre self.now.expr) (E.post self.now.expr) (M.pre self.now.member) (M.post self.now.member) (S.pre self.now.stmt) (S.post self.now.stmt) }
+    pub fn closed(&self, tokens: &mut Cursor<'_>, close: Symbol) -> Result<Boxed<Expr>, Failed>
+        requires { ⟦<Self as Nests>⟧.nests self.now }
         ensures { Reads (ex.closed close ((spec.within CHAINS self.now.left).expr true) tokens.old) result tokens.new }
     {
         let inner = self.expr(tokens, true)?;
@@ -54,34 +53,35 @@ impl<
         Ok(inner)
     }
 
-    fn array(&self, tokens: &mut Cursor<'_>) -> Result<Expr, Failed>
-        requires { Deeper self.now.left (E.pre self.now.expr) (E.post self.now.expr) (M.pre self.now.member) (M.post self.now.member) (S.pre self.now.stmt) (S.post self.now.stmt) }
+    fn array(&self, tokens: &mut Cursor<'_>) -> Result<Boxed<Expr>, Failed>
+        requires { ⟦<Self as Nests>⟧.nests self.now }
         ensures { Reads (pieces.array_of (spec.within CHAINS self.now.left) tokens.old) result tokens.new }
     {
         let all = self.elements(tokens)?;
-        Ok(Expr::Array(all))
+        Ok(Boxed::new(self.alloc, Expr::Array(all))?)
     }
 
-    fn object(&self, tokens: &mut Cursor<'_>) -> Result<Expr, Failed>
-        requires { Deeper self.now.left (E.pre self.now.expr) (E.post self.now.expr) (M.pre self.now.member) (M.post self.now.member) (S.pre self.now.stmt) (S.post self.now.stmt) }
+    fn object(&self, tokens: &mut Cursor<'_>) -> Result<Boxed<Expr>, Failed>
+        requires { ⟦<Self as Nests>⟧.nests self.now }
         ensures { Reads (pieces.object_of (spec.within CHAINS self.now.left) tokens.old) result tokens.new }
     {
         let all = self.members(tokens)?;
-        Ok(Expr::Object(all))
+        Ok(Boxed::new(self.alloc, Expr::Object(all))?)
     }
 
-    fn function(&self, tokens: &mut Cursor<'_>) -> Result<Expr, Failed>
-        requires { Deeper self.now.left (E.pre self.now.expr) (E.post self.now.expr) (M.pre self.now.member) (M.post self.now.member) (S.pre self.now.stmt) (S.post self.now.stmt) }
+    fn function(&self, tokens: &mut Cursor<'_>) -> Result<Boxed<Expr>, Failed>
+        requires { ⟦<Self as Nests>⟧.nests self.now }
         ensures { Reads (pieces.function_of (spec.within CHAINS self.now.left) tokens.old) result tokens.new }
     {
         let function = self.named(tokens)?;
-        Ok(make::function(self.alloc, function)?)
+        let function = Shared::new(self.alloc, function)?;
+        Ok(Boxed::new(self.alloc, Expr::Function(function))?)
     }
 
     /// An array, an object or a function.
     #[tactic(auto, using(script_readers::proofs::Begun::taken, script_readers::proofs::Begun::passed, script_readers::proofs::Begun::refused))]
-    fn literal(&self, tokens: &mut Cursor<'_>) -> Result<Expr, Failed>
-        requires { Deeper self.now.left (E.pre self.now.expr) (E.post self.now.expr) (M.pre self.now.member) (M.post self.now.member) (S.pre self.now.stmt) (S.post self.now.stmt) }
+    fn literal(&self, tokens: &mut Cursor<'_>) -> Result<Boxed<Expr>, Failed>
+        requires { ⟦<Self as Nests>⟧.nests self.now }
         ensures { Reads (pieces.literal self.now.left (spec.within CHAINS self.now.left) tokens.old) result tokens.new }
     {
         if let Some(_) = tokens.eat(Symbol::OpenBracket) {
@@ -98,12 +98,12 @@ impl<
 
     /// An expression that is none of smaller ones with an operator or a suffix.
     #[tactic(auto, unfolding(script_readers::specs::Expressions::primary), using(script_readers::proofs::Begun::taken, script_readers::proofs::Begun::passed, script_readers::proofs::Begun::refused))]
-    pub fn primary(&self, tokens: &mut Cursor<'_>) -> Result<Expr, Failed>
-        requires { Deeper self.now.left (E.pre self.now.expr) (E.post self.now.expr) (M.pre self.now.member) (M.post self.now.member) (S.pre self.now.stmt) (S.post self.now.stmt) }
+    pub fn primary(&self, tokens: &mut Cursor<'_>) -> Result<Boxed<Expr>, Failed>
+        requires { ⟦<Self as Nests>⟧.nests self.now }
         ensures { Reads (ex.primary self.now.left (spec.within CHAINS self.now.left) tokens.old) result tokens.new }
     {
         if let Some(token) = tokens.eat_any(Set::Leaves) {
-            return Ok(make::leaf(token)?);
+            return Ok(Boxed::new(self.alloc, make::leaf(token)?)?);
         }
         if let Some(_) = tokens.begin(self.left, Symbol::Open)? {
             return self.closed(tokens, Symbol::Close);
@@ -112,8 +112,8 @@ impl<
     }
 
     #[tactic(auto, unfolding(script_readers::specs::Expressions::new))]
-    fn new(&self, tokens: &mut Cursor<'_>) -> Result<Expr, Failed>
-        requires { Deeper self.now.left (E.pre self.now.expr) (E.post self.now.expr) (M.pre self.now.member) (M.post self.now.member) (S.pre self.now.stmt) (S.post self.now.stmt) }
+    fn new(&self, tokens: &mut Cursor<'_>) -> Result<Boxed<Expr>, Failed>
+        requires { ⟦<Self as Nests>⟧.nests self.now }
         ensures { Reads (ex.new self.now.left (spec.within CHAINS self.now.left) tokens.old) result tokens.new }
     {
         let callee = self.callee_below(tokens)?;
@@ -121,13 +121,13 @@ impl<
             Some(_) => self.arguments(tokens)?,
             None => Items::new(self.alloc),
         };
-        Ok(make::new(self.alloc, callee, given)?)
+        Ok(Boxed::new(self.alloc, Expr::New(callee, given))?)
     }
 
     /// What suffixes follow.
     #[tactic(auto, unfolding(script_readers::specs::Expressions::base), using(script_readers::proofs::Begun::taken, script_readers::proofs::Begun::passed, script_readers::proofs::Begun::refused))]
-    fn base(&self, tokens: &mut Cursor<'_>) -> Result<Expr, Failed>
-        requires { Deeper self.now.left (E.pre self.now.expr) (E.post self.now.expr) (M.pre self.now.member) (M.post self.now.member) (S.pre self.now.stmt) (S.post self.now.stmt) }
+    fn base(&self, tokens: &mut Cursor<'_>) -> Result<Boxed<Expr>, Failed>
+        requires { ⟦<Self as Nests>⟧.nests self.now }
         ensures { Reads (ex.base self.now.left (spec.within CHAINS self.now.left) tokens.old) result tokens.new }
     {
         if let Some(_) = tokens.begin(self.left, Symbol::New)? {
@@ -137,21 +137,21 @@ impl<
     }
 
     #[tactic(auto, unfolding(script_readers::specs::Expressions::index_of))]
-    fn index_of(&self, tokens: &mut Cursor<'_>, object: Expr) -> Result<Expr, Failed>
-        requires { Deeper self.now.left (E.pre self.now.expr) (E.post self.now.expr) (M.pre self.now.member) (M.post self.now.member) (S.pre self.now.stmt) (S.post self.now.stmt) }
+    fn index_of(&self, tokens: &mut Cursor<'_>, object: Boxed<Expr>) -> Result<Boxed<Expr>, Failed>
+        requires { ⟦<Self as Nests>⟧.nests self.now }
         ensures { Reads (ex.index_of (spec.within CHAINS self.now.left) object tokens.old) result tokens.new }
     {
         let place = self.closed(tokens, Symbol::CloseBracket)?;
-        Ok(make::index(self.alloc, object, place)?)
+        Ok(Boxed::new(self.alloc, Expr::Index(object, place))?)
     }
 
     #[tactic(auto, unfolding(script_readers::specs::Expressions::call_of))]
-    fn call_of(&self, tokens: &mut Cursor<'_>, callee: Expr) -> Result<Expr, Failed>
-        requires { Deeper self.now.left (E.pre self.now.expr) (E.post self.now.expr) (M.pre self.now.member) (M.post self.now.member) (S.pre self.now.stmt) (S.post self.now.stmt) }
+    fn call_of(&self, tokens: &mut Cursor<'_>, callee: Boxed<Expr>) -> Result<Boxed<Expr>, Failed>
+        requires { ⟦<Self as Nests>⟧.nests self.now }
         ensures { Reads (ex.call_of self.now.left (spec.within CHAINS self.now.left) callee tokens.old) result tokens.new }
     {
         let given = self.arguments(tokens)?;
-        Ok(make::call(self.alloc, callee, given)?)
+        Ok(Boxed::new(self.alloc, Expr::Call(callee, given))?)
     }
 
     /// The suffix that the mark begins.
@@ -159,10 +159,10 @@ impl<
     pub fn suffix(
         &self,
         tokens: &mut Cursor<'_>,
-        object: Expr,
+        object: Boxed<Expr>,
         mark: &Token,
-    ) -> Result<Expr, Failed>
-        requires { Deeper self.now.left (E.pre self.now.expr) (E.post self.now.expr) (M.pre self.now.member) (M.post self.now.member) (S.pre self.now.stmt) (S.post self.now.stmt) }
+    ) -> Result<Boxed<Expr>, Failed>
+        requires { ⟦<Self as Nests>⟧.nests self.now }
         ensures { Reads (ex.suffix self.now.left (spec.within CHAINS self.now.left) object mark.now tokens.old) result tokens.new }
     {
         let symbol = mark.symbol();
@@ -177,8 +177,13 @@ impl<
 
     /// The suffixes that begin with one of these.
     #[tactic(auto, unfolding(token_readers::specs::Readers::chain))]
-    pub fn chain(&self, tokens: &mut Cursor<'_>, of: Set, mut found: Expr) -> Result<Expr, Failed>
-        requires { Deeper self.now.left (E.pre self.now.expr) (E.post self.now.expr) (M.pre self.now.member) (M.post self.now.member) (S.pre self.now.stmt) (S.post self.now.stmt) }
+    pub fn chain(
+        &self,
+        tokens: &mut Cursor<'_>,
+        of: Set,
+        mut found: Boxed<Expr>,
+    ) -> Result<Boxed<Expr>, Failed>
+        requires { ⟦<Self as Nests>⟧.nests self.now }
         ensures { Reads (chain CHAINS (ex.denied self.now.left) (among (symbols_of of)) (ex.suffix self.now.left (spec.within CHAINS self.now.left)) found tokens.old) result tokens.new }
     {
         for _link in 0..CHAINS {
@@ -197,8 +202,8 @@ impl<
 
     /// An expression with its members, elements and calls.
     #[tactic(auto, unfolding(script_readers::specs::Expressions::suffixed))]
-    pub fn suffixed(&self, tokens: &mut Cursor<'_>) -> Result<Expr, Failed>
-        requires { Deeper self.now.left (E.pre self.now.expr) (E.post self.now.expr) (M.pre self.now.member) (M.post self.now.member) (S.pre self.now.stmt) (S.post self.now.stmt) }
+    pub fn suffixed(&self, tokens: &mut Cursor<'_>) -> Result<Boxed<Expr>, Failed>
+        requires { ⟦<Self as Nests>⟧.nests self.now }
         ensures { Reads (ex.suffixed CHAINS self.now.left (spec.within CHAINS self.now.left) tokens.old) result tokens.new }
     {
         let first = self.base(tokens)?;
@@ -207,8 +212,8 @@ impl<
 
     /// What a `new` is applied to.
     #[tactic(auto, unfolding(script_readers::specs::Expressions::callee))]
-    pub fn callee(&self, tokens: &mut Cursor<'_>) -> Result<Expr, Failed>
-        requires { Deeper self.now.left (E.pre self.now.expr) (E.post self.now.expr) (M.pre self.now.member) (M.post self.now.member) (S.pre self.now.stmt) (S.post self.now.stmt) }
+    pub fn callee(&self, tokens: &mut Cursor<'_>) -> Result<Boxed<Expr>, Failed>
+        requires { ⟦<Self as Nests>⟧.nests self.now }
         ensures { Reads (ex.callee CHAINS self.now.left (spec.within CHAINS self.now.left) tokens.old) result tokens.new }
     {
         let first = self.base(tokens)?;

@@ -1,9 +1,9 @@
 -- The symbol of the next token tells whether it is in a set.
-use Rattle.std.proofs.Common.{◌≡◌, Bool, false, List, [], ◌∷◌, Option, Some, None, refl, true, ap, ◌||◌, ℕ, suc, zero, ◌≤◌, arith}
+use Rattle.std.proofs.Common.{◌≡◌, Bool, false, List, [], ◌∷◌, refl, true, ap, ◌||◌, ℕ, suc, zero, ◌≤◌, arith}
 use Rattle.js_syntax.specs.declared.symbol.Symbol.{Symbol}
 use Rattle.js_syntax.specs.declared.symbol.Symbol.TheVariants as s
 use Rattle.js_syntax.specs.Words.{operators}
-use Rattle.js_syntax.specs.Symbols.{Tokens, next, is, among, sees, symbol_of, number}
+use Rattle.js_syntax.specs.Symbols.{is, among, symbol_of, number}
 use Rattle.script_readers.specs.Statements.{begins_stmt, begins_nested, begins_word}
 use Rattle.token_readers.proofs.Sets.{amid, among_amid}
 use Rattle.js_syntax.specs.declared.token.Token.{Token}

@@ -1,9 +1,8 @@
 -- What a function that reads ensures: what reading gives, unless memory ran out. The tokens that it leaves are those from the fault on.
-use Rattle.std.specs.Prelude.{◌≡◌, ◌<◌, ℕ, Bool, true, false, not, List, [], ◌∷◌, Option, Some, None, Result, Ok, Err}
+use Rattle.std.specs.Prelude.{◌≡◌, ◌<◌, ℕ, Bool, true, false, not, [], ◌∷◌, Option, Some, None, Result, Ok, Err}
 use denote.Bor.{Bor}
 use Rattle.js_syntax.specs.declared.token.Token.{Token}
 use Rattle.js_syntax.specs.declared.symbol.Symbol.{Symbol}
-use Rattle.js_syntax.specs.declared.parse_fault.ParseKind.{ParseKind}
 use Rattle.js_syntax.specs.Symbols.{Tokens, next, sees, symbol_of}
 use Rattle.token_readers.specs.Readers.{Outcome}
 use Rattle.js_syntax.specs.declared.parse_fault.ParseKind.TheVariants.{TooDeep}

@@ -3,14 +3,12 @@
 #![tactic(auto)]
 
 mod cursor;
-mod heads;
 pub mod make;
 mod names;
 mod targets;
 mod words;
 
 pub use cursor::{Cursor, Failed, place};
-pub use heads::{Head, KeysHead, turned, turned_over};
 pub use names::{member_of, name, parameters};
 pub use targets::{accept, begin_assign, eat_postfix, sees_postfix};
 pub use words::{Set, has, is};

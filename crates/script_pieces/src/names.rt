@@ -6,11 +6,10 @@ ghost use Rattle.script_readers.specs.Expressions as ex;
 ghost use Rattle.script_pieces.specs.Reads.{Reads};
 
 use crate::cursor::{Cursor, Failed};
-use crate::make;
 use crate::words::Set;
 use base_text::Text;
 use js_syntax::{Expr, ParseKind, Symbol};
-use sqlite_items::Items;
+use sqlite_items::{Boxed, Items};
 use std::alloc::Global;
 
 /// A name.
@@ -84,13 +83,17 @@ pub fn parameters(alloc: Global, tokens: &mut Cursor<'_>) -> Result<Items<Text>,
 
 /// The member whose name stands behind a `.`.
 #[tactic(auto, unfolding(script_readers::specs::Expressions::member_of))]
-pub fn member_of(alloc: Global, tokens: &mut Cursor<'_>, object: Expr) -> Result<Expr, Failed>
+pub fn member_of(
+    alloc: Global,
+    tokens: &mut Cursor<'_>,
+    object: Boxed<Expr>,
+) -> Result<Boxed<Expr>, Failed>
     ensures { Reads (ex.member_of object tokens.old) result tokens.new }
 {
     match tokens.eat_any(Set::MemberNames) {
         Some(token) => {
             let name = token.text.share()?;
-            Ok(make::member(alloc, object, name)?)
+            Ok(Boxed::new(alloc, Expr::Member(object, name))?)
         }
         None => Err(Failed::Fault(ParseKind::Unexpected)),
     }

@@ -9,6 +9,7 @@ use crate::cursor::{Cursor, Failed};
 use crate::make;
 use crate::words::Set;
 use js_syntax::{Expr, ParseKind, Token};
+use sqlite_items::Boxed;
 
 /// Whether a `++` or `--` goes on with this expression here.
 pub fn sees_postfix(tokens: &Cursor<'_>, operand: &Expr) -> bool
@@ -43,10 +44,10 @@ pub fn begin_assign<'a>(
 
 /// A name or a member, with no operator behind it.
 #[tactic(auto, unfolding(script_readers::specs::Expressions::accept))]
-pub fn accept(tokens: &Cursor<'_>, found: Expr) -> Result<Expr, Failed>
+pub fn accept(tokens: &Cursor<'_>, found: Boxed<Expr>) -> Result<Boxed<Expr>, Failed>
     ensures { Reads (ex.accept found tokens.now) result tokens.now }
 {
-    if sees_postfix(tokens, &found) || !make::is_target(&found) {
+    if sees_postfix(tokens, found.get()) || !make::is_target(found.get()) {
         return Err(Failed::Fault(ParseKind::Unexpected));
     }
     Ok(found)

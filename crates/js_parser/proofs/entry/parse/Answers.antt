@@ -1,10 +1,7 @@
-use Rattle.std.proofs.Common.{◌≡◌, ◌≤◌, ℕ, List, Result, Ok, Err, sym, arith}
-use Rattle.js_syntax.specs.declared.parse_fault.ParseKind.{ParseKind}
+use Rattle.std.proofs.Common.{List, Ok, Err, arith}
 use Rattle.js_syntax.specs.declared.parse_fault.ParseKind.TheVariants.{Unexpected}
-use Rattle.js_syntax.specs.declared.parse_fault.ParseFault.{ParseFault}
 use Rattle.js_syntax.specs.declared.tree.Stmt.{Stmt}
 use Rattle.js_syntax.specs.declared.tree.Script.{Script}
-use Rattle.js_syntax.specs.Symbols.{Tokens}
 use Rattle.script_readers.proofs.Tops.{script_sound, script_again}
 use Rattle.script_readers.proofs.Whole.{is_first}
 use Rattle.script_readers.proofs.OneFault.{script_has, one_fault}

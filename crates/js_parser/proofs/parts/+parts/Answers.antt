@@ -1,4 +1,4 @@
-use Rattle.std.proofs.Common.{◌≡◌, ap, ◌∙◌, refl, rules, arith, ℕ}
+use Rattle.std.proofs.Common.{◌≡◌, ap, arith, ℕ}
 use Rattle.js_syntax.specs.Symbols.{among}
 use Rattle.js_parser.specs.declared.level.Part.TheVariants as part
 use Rattle.js_parser.specs.declared.level.Form.TheVariants as form

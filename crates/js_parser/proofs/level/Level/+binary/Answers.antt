@@ -1,5 +1,4 @@
 use Rattle.std.proofs.Common.{rules, arith, ◌≡◌, ◌-◌, ◌+◌, sym, ap, ◌∙◌, None}
-use Rattle.std.proofs.lemmas.Grind.{common_steps}
 use Rattle.js_syntax.specs.Symbols.{among, next, symbol_of}
 use Rattle.js_syntax.specs.Words.{operators, operation}
 use Rattle.token_readers.specs.Readers.{chain, and_then, pure}
@@ -21,5 +20,5 @@ pub operations-loop-link-preserved : goal.operations-loop-link-preserved
 operations-loop-link-preserved g t c =
     let e = turns.one_more (λ n. chain n None (among (operators c.args.in_is c.args.level)) (operand_of (binary 64 c.args.self.now.left (within 64 c.args.self.now.left) c.args.in_is c.args.level)) c.loop-link.found c.loop-link.tokens) 64 c.loop-link._link c.loop-link-test.true c.loop-link.invariant in
     let f = links.link_taken (64 - (c.loop-link._link + 1)) None (among (operators c.args.in_is c.args.level)) (operand_of (binary 64 c.args.self.now.left (within 64 c.args.self.now.left) c.args.in_is c.args.level)) c.loop-link.found c.loop-link.tokens c.eat_any.new.self c.in-Some.mark.now (links.nothing_denied (next c.loop-link.tokens)) c.in-Some.ensures.0 c.in-Some.ensures.1 in
-    let h : c.in_ok-found.found ≡ operation (symbol_of c.in-Some.mark.now) c.loop-link.found c.in_ok-operand.operand = c.in_ok-found.ensures ∙ ap (λ x. operation x c.loop-link.found c.in_ok-operand.operand) c.symbol.ensures in
+    let h : c.in_ok-found.found ≡ operation (symbol_of c.in-Some.mark.now) c.loop-link.found c.in_ok-operand.operand = c.in_ok-found.ensures ∙ c.operation-operation.ensures ∙ ap (λ x. operation x c.loop-link.found c.in_ok-operand.operand) c.symbol.ensures in
     ap (λ x. chain (64 - (c.loop-link._link + 1)) None (among (operators c.args.in_is c.args.level)) (operand_of (binary 64 c.args.self.now.left (within 64 c.args.self.now.left) c.args.in_is c.args.level)) x c.binary.new.tokens) h ∙ sym (ap (λ o. and_then (and_then o (λ b. pure (operation (symbol_of c.in-Some.mark.now) c.loop-link.found b))) (chain (64 - (c.loop-link._link + 1)) None (among (operators c.args.in_is c.args.level)) (operand_of (binary 64 c.args.self.now.left (within 64 c.args.self.now.left) c.args.in_is c.args.level)))) c.in_ok-operand.ensures) ∙ sym f ∙ e

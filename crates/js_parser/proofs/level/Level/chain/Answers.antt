@@ -1,5 +1,4 @@
-use Rattle.std.proofs.Common.{rules, arith, ◌≡◌, ◌-◌, ◌+◌, sym, ap, ◌∙◌, Ok}
-use Rattle.std.proofs.lemmas.Grind.{common_steps}
+use Rattle.std.proofs.Common.{rules, ◌-◌, ◌+◌, sym, ap, ◌∙◌, Ok}
 use Rattle.js_syntax.specs.Symbols.{among}
 use Rattle.token_readers.specs.Readers.{chain, and_then}
 use Rattle.script_pieces.specs.Sets.{symbols_of}

@@ -1,4 +1,4 @@
-use Rattle.std.proofs.Common.{◌≡◌, Option, Ok, subst}
+use Rattle.std.proofs.Common.{Option, Ok, subst}
 use denote.Bor.{Bor}
 use Rattle.js_syntax.specs.declared.token.Token.{Token}
 use Rattle.js_syntax.specs.declared.symbol.Symbol.TheVariants as s

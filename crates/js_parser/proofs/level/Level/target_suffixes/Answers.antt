@@ -1,7 +1,6 @@
-use Rattle.std.proofs.Common.{rules, arith, ◌≡◌, ◌-◌, ◌+◌, suc, sym, ap, ◌∙◌}
-use Rattle.std.proofs.lemmas.Grind.{common_steps}
+use Rattle.std.proofs.Common.{rules, arith, ◌≡◌, ◌-◌, suc, sym, ap, ◌∙◌}
 use Rattle.token_readers.specs.Readers.{and_then}
-use Rattle.script_readers.specs.Expressions.{target_chain, accept}
+use Rattle.script_readers.specs.Expressions.{target_chain}
 use Rattle.script_readers.specs.Statements.{within}
 use Rattle.script_readers.proofs.TargetLinks as links
 use Rattle.js_parser.proofs.level.Level.target_suffixes.Goals as goal
