@@ -34,8 +34,8 @@ fn top(alloc: Global, tokens: &mut Cursor<'_>) -> Result<Items<Stmt>, Failed>
 
 /// The script that the tokens spell, the last of which is the end (ECMAScript, 16.1).
 ///
-/// Its parts go 63 levels deep at most, and a chain has 64 operators at most and an expression 64
-/// suffixes. A `Fault` comes exactly where the tokens are no such script. It is at the first token such
+/// Its parts go 63 levels deep at most, and a chain of operators or of suffixes has 64 of them at most;
+/// the members of what a `new` is applied to are a chain of their own. A `Fault` comes exactly where the tokens are no such script. It is at the first token such
 /// that no script has the tokens through it at its front: `TooDeep` where only a script over the limits
 /// has them, else `Unexpected`.
 pub fn parse(alloc: Global, tokens: &[Token]) -> Result<Script, OrMemory<ParseFault>>

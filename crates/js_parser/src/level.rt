@@ -1,6 +1,6 @@
 //! The forms at one level. What stands one level deeper is read by function values, so that each form is
 //! proved by itself.
-ghost use Rattle.std.specs.Prelude.{◌≡◌, if◌then◌else◌};
+ghost use Rattle.std.specs.Prelude.{◌≡◌, ℕ, if◌then◌else◌};
 ghost use Rattle.script_pieces.specs.Reads.{Reads};
 ghost use Rattle.js_parser.specs.Nests.{Deeper};
 ghost use Rattle.script_readers.specs.Statements as spec;
@@ -57,8 +57,11 @@ pub trait Nests {
     /// They read it as the grammar says.
     ghost nests: { Self → Type 0 };
 
+    ghost levels: { Self → ℕ };
+
     /// How many levels deeper a part of it may go.
-    fn left(&self) -> usize;
+    fn left(&self) -> usize
+        ensures { result ≡ levels self.now };
 }
 
 impl<
@@ -67,6 +70,8 @@ impl<
     S: Fn(Global, &mut Cursor<'_>, usize, Form, bool, bool) -> Result<Stmt, Failed>,
 > Nests for Level<E, M, S> {
     ghost nests = { λ l. Deeper l.left (E.pre l.expr) (E.post l.expr) (M.pre l.member) (M.post l.member) (S.pre l.stmt) (S.post l.stmt) };
+
+    ghost levels = { λ l. l.left };
 
     fn left(&self) -> usize {
         self.left

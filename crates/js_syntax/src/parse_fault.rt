@@ -3,10 +3,10 @@
 /// Why no script has the tokens.
 #[derive(Clone, Copy, Debug, PartialEq, Eq)]
 pub enum ParseKind {
-    /// No script has the tokens through this one at its front, whatever its depth.
+    /// No script has the tokens through this one at its front, whatever the limits.
     Unexpected,
     /// Only scripts that go over a limit have them there: 63 for the depth of a part, 64 for the
-    /// operators of a chain and for the suffixes of an expression.
+    /// operators of a chain and for the suffixes of one chain of them.
     TooDeep,
 }
 

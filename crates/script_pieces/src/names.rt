@@ -1,5 +1,5 @@
 //! Names, and the parameters of functions (ECMAScript, 13.1 and 15.1).
-ghost use Rattle.std.specs.Prelude.{◌≡◌};
+ghost use Rattle.std.specs.Prelude.{◌≡◌, ◌++◌, ◌∷◌, [], IfOk};
 ghost use Rattle.token_readers.specs.Readers.{repeat};
 ghost use Rattle.js_syntax.specs.Grammar as grammar;
 ghost use Rattle.script_readers.specs.Expressions as ex;
@@ -7,10 +7,12 @@ ghost use Rattle.script_pieces.specs.Reads.{Reads};
 
 use crate::cursor::{Cursor, Failed};
 use crate::words::Set;
-use base_text::Text;
+use base_text::{Mem, Text};
 use js_syntax::{Expr, ParseKind, Symbol};
 use sqlite_items::{Boxed, Items};
 use std::alloc::Global;
+use std::collections::BTreeSet;
+use std::marker::Model;
 
 /// A name.
 #[tactic(auto, unfolding(script_readers::specs::Expressions::name))]
@@ -23,31 +25,73 @@ pub fn name(tokens: &mut Cursor<'_>) -> Result<Text, Failed>
     }
 }
 
-fn is_known(name: &Text, found: &[Text]) -> bool
-    ensures { result ≡ grammar.is_known name.now found.now }
-{
-    match found {
-        [] => false,
-        [first, others @ ..] => *name == *first || is_known(name, others),
+/// Names in order, none of which stands twice, beside the set of them.
+#[derive(Drop)]
+struct Names {
+    found: Items<Text>,
+    set: BTreeSet<Text, Global>,
+}
+
+impl Model for Names {
+    ghost use Rattle.std.specs.Prelude.{List, ℕ};
+    ghost use Rattle.script_pieces.specs.Known.{AreKnown};
+
+    ghost Value = { List (List ℕ) };
+
+    ghost view = { λ n. n.found };
+
+    ghost invariant = { λ n. AreKnown n.found n.set };
+}
+
+impl Names {
+    fn new(alloc: Global) -> Names
+        ensures { result ≡ [] }
+    {
+        Names {
+            found: Items::new(alloc),
+            set: BTreeSet::new(alloc),
+        }
+    }
+
+    fn has(&self, name: &Text) -> bool
+        ensures { result ≡ grammar.is_known name.now self.now }
+    {
+        self.set.contains(name)
+    }
+
+    /// These and one more.
+    fn with(self, name: &Text) -> Mem<Names>
+        ensures { IfOk result (λ names. names ≡ self ++ name.now ∷ []) }
+    {
+        let Names { mut found, mut set } = self;
+        set.insert(name.share()?)?;
+        found.push(name.share()?)?;
+        Ok(Names { found, set })
+    }
+
+    fn into_items(self) -> Items<Text>
+        ensures { result ≡ self }
+    {
+        let Names { found, set: _ } = self;
+        found
     }
 }
 
 #[tactic(auto, unfolding(script_readers::specs::Expressions::new_name))]
-fn new_name(tokens: &mut Cursor<'_>, mut found: Items<Text>) -> Result<Items<Text>, Failed>
+fn new_name(tokens: &mut Cursor<'_>, found: Names) -> Result<Names, Failed>
     ensures { Reads (ex.new_name found tokens.old) result tokens.new }
 {
     match tokens.rest() {
-        [token, ..] if tokens.sees_any(Set::Names) && !is_known(&token.text, found.as_slice()) => {
+        [token, ..] if tokens.sees_any(Set::Names) && !found.has(&token.text) => {
             tokens.skip();
-            found.push(token.text.share()?)?;
-            Ok(found)
+            Ok(found.with(&token.text)?)
         }
         _ => Err(Failed::Fault(ParseKind::Unexpected)),
     }
 }
 
 #[tactic(auto, unfolding(token_readers::specs::Readers::repeat, token_readers::specs::Readers::rounds))]
-fn more_names(tokens: &mut Cursor<'_>, mut found: Items<Text>) -> Result<Items<Text>, Failed>
+fn more_names(tokens: &mut Cursor<'_>, mut found: Names) -> Result<Names, Failed>
     ensures { Reads (repeat ex.not_comma ex.next_name found tokens.old) result tokens.new }
 {
     for _turn in 0..tokens.left() {
@@ -61,10 +105,10 @@ fn more_names(tokens: &mut Cursor<'_>, mut found: Items<Text>) -> Result<Items<T
 }
 
 #[tactic(auto, unfolding(script_readers::specs::Expressions::some_names))]
-fn some_names(alloc: Global, tokens: &mut Cursor<'_>) -> Result<Items<Text>, Failed>
+fn some_names(alloc: Global, tokens: &mut Cursor<'_>) -> Result<Names, Failed>
     ensures { Reads (ex.some_names tokens.old) result tokens.new }
 {
-    let first = new_name(tokens, Items::new(alloc))?;
+    let first = new_name(tokens, Names::new(alloc))?;
     more_names(tokens, first)
 }
 
@@ -78,7 +122,7 @@ pub fn parameters(alloc: Global, tokens: &mut Cursor<'_>) -> Result<Items<Text>,
     }
     let found = some_names(alloc, tokens)?;
     tokens.expect(Symbol::Close)?;
-    Ok(found)
+    Ok(found.into_items())
 }
 
 /// The member whose name stands behind a `.`.

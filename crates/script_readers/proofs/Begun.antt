@@ -1,5 +1,5 @@
 -- What a reader that isn't begun at the last level answers, by what its next token is.
-use Rattle.std.proofs.Common.{◌≡◌, ◌<◌, ℕ, zero, suc, Bool, true, false, cond, List, [], ◌∷◌, Result, Ok, Err, refl, ap, ◌∙◌, arith}
+use Rattle.std.proofs.Common.{◌≡◌, ◌<◌, ℕ, zero, suc, Bool, true, false, cond, ◌∷◌, Err, ap, ◌∙◌, arith}
 use Rattle.js_syntax.specs.declared.token.Token.{Token}
 use Rattle.js_syntax.specs.declared.parse_fault.ParseKind.TheVariants.{TooDeep}
 use Rattle.js_syntax.specs.Symbols.{Tokens, next, sees}

@@ -1,5 +1,5 @@
 -- The last of the tokens of a text is an End token.
-use Rattle.std.proofs.Common.{◌≡◌, ℕ, Bool, List, [], ◌∷◌, refl}
+use Rattle.std.proofs.Common.{ℕ, Bool, List, [], ◌∷◌, refl}
 use Rattle.js_syntax.specs.declared.token.Token.{Token}
 use Rattle.js_syntax.specs.Scripts.{EndsWell}
 use Rattle.js_syntax.specs.TokenScalars.{Scalars}

@@ -1,5 +1,5 @@
 -- The first fault, by what is read.
-use Rattle.std.proofs.Common.{◌≡◌, ℕ, zero, suc, ◌+◌, ◌<◌, ◌≤◌, Bool, true, false, cond, List, [], ◌∷◌, ◌++◌, length, Option, Some, None, Result, Ok, Err, refl, sym, ap, subst, ◌∙◌, append_assoc, arith}
+use Rattle.std.proofs.Common.{◌≡◌, ℕ, ◌+◌, ◌<◌, ◌≤◌, Bool, true, false, cond, List, [], ◌∷◌, ◌++◌, length, Result, Ok, Err, refl, sym, ap, subst, ◌∙◌, append_assoc, arith}
 use Rattle.std.proofs.lemmas.List.{length-append, append-nil}
 use Rattle.js_syntax.specs.declared.token.Token.{Token}
 use Rattle.js_syntax.specs.declared.token.TokenKind.TheVariants as kind
@@ -8,11 +8,11 @@ use Rattle.js_syntax.specs.declared.parse_fault.ParseKind.{ParseKind}
 use Rattle.js_syntax.specs.declared.parse_fault.ParseKind.TheVariants.{Unexpected, TooDeep}
 use Rattle.js_syntax.specs.declared.tree.Script.{Script}
 use Rattle.js_syntax.specs.declared.tree.Stmt.{Stmt}
-use Rattle.js_syntax.specs.Symbols.{Tokens, next, is, among, sees, symbol_of}
+use Rattle.js_syntax.specs.Symbols.{Tokens, is, symbol_of}
 use Rattle.js_syntax.specs.Scripts.{EndsWell}
-use Rattle.token_readers.specs.Readers.{Outcome, Reader}
-use Rattle.token_readers.proofs.Laws.{Law, Sane, Passed, Refused, NoEnd, Completable, Completes}
-use Rattle.token_readers.proofs.Wider.{Wider, Grows, Further, GrowsAtFault}
+use Rattle.token_readers.specs.Readers.{Outcome}
+use Rattle.token_readers.proofs.Laws.{Law, Passed, Refused, NoEnd, Completable}
+use Rattle.token_readers.proofs.Wider.{Grows, Further, GrowsAtFault}
 use Rattle.token_readers.proofs.Sets.{May}
 use Rattle.script_readers.specs.Statements.{top, finish, finish_after, script}
 use Rattle.script_readers.proofs.Samples.{end, is_end}

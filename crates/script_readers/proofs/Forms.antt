@@ -1,45 +1,33 @@
 -- Expressions: the laws of each form, and that it is what the grammar says.
-use Rattle.std.proofs.Common.{◌≡◌, ◌==◌, ◌||◌, ◌&&◌, ℕ, zero, suc, ◌+◌, ◌<◌, ◌≤◌, Bool, true, false, not, cond, List, [], ◌∷◌, ◌++◌, length, Option, Some, None, Result, Ok, Err, refl, sym, ap, subst, ◌∙◌, append_assoc, arith}
-use Rattle.std.proofs.lemmas.List.{append-nil}
+use Rattle.std.proofs.Common.{◌≡◌, ◌||◌, ◌&&◌, ℕ, zero, suc, ◌+◌, ◌<◌, ◌≤◌, Bool, true, false, not, cond, List, [], ◌∷◌, Option, Some, None, Ok, Err, refl, ap, ◌∙◌, arith}
 use Rattle.js_syntax.specs.declared.token.Token.{Token}
 use Rattle.js_syntax.specs.declared.symbol.Symbol.{Symbol}
 use Rattle.js_syntax.specs.declared.symbol.Symbol.TheVariants as s
-use Rattle.js_syntax.specs.declared.parse_fault.ParseKind.{ParseKind}
-use Rattle.js_syntax.specs.declared.parse_fault.ParseKind.TheVariants.{Unexpected, TooDeep}
+use Rattle.js_syntax.specs.declared.parse_fault.ParseKind.TheVariants.{Unexpected}
 use Rattle.js_syntax.specs.declared.tree.Expr.{Expr}
 use Rattle.js_syntax.specs.declared.tree.Expr.TheVariants as ex
 use Rattle.js_syntax.specs.declared.tree.Property.{Property}
-use Rattle.js_syntax.specs.declared.tree.Property.TheVariants as property
 use Rattle.js_syntax.specs.declared.tree.Function.{Function}
-use Rattle.js_syntax.specs.declared.tree.Declaration.{Declaration}
-use Rattle.js_syntax.specs.declared.tree.Catch.{Catch}
-use Rattle.js_syntax.specs.declared.tree.ForStart.{ForStart}
-use Rattle.js_syntax.specs.declared.tree.ForStart.TheVariants as start
-use Rattle.js_syntax.specs.declared.tree.ForTarget.{ForTarget}
-use Rattle.js_syntax.specs.declared.tree.ForTarget.TheVariants as target
 use Rattle.js_syntax.specs.declared.tree.Stmt.{Stmt}
-use Rattle.js_syntax.specs.declared.tree.Stmt.TheVariants as st
 use Rattle.js_syntax.specs.Symbols.{Tokens, next, is, among, sees, stops, symbol_of}
 use Rattle.js_syntax.specs.Spelling.{Spelling, Both, both, Each, Links, Listed, Separated}
 use Rattle.js_syntax.specs.Spelling as sp
-use Rattle.js_syntax.specs.Words.{names, member_names, keys, plain_keys, leaves, leaf_of, is_target, suffixes, member_suffixes, updates, update_of, is_postfix, prefixes, prefixed, operators, operation, assignments, assignment, assigns, closes_body, ends_line}
+use Rattle.js_syntax.specs.Words.{names, member_names, keys, leaves, leaf_of, is_target, suffixes, member_suffixes, updates, update_of, is_postfix, prefixes, prefixed, operators, operation, assignments, assignment, assigns, closes_body}
 use Rattle.js_syntax.specs.Grammar.{Parts, is_known, Names, Parameters, Body, Lambda, Named, Arguments, Primary, New, Base, Suffix, Suffixed, Callee, Unary, Operand, Chain, Binary, Conditional, Assign, Member, Ends, Stops, Block, Declared, Condition, Otherwise, Optional, Start, Target, Handlers, Statement, LEVELS_OF_CHAINS, not_first, parts_within}
 use Rattle.js_syntax.specs.Grammar as g
-use Rattle.token_readers.specs.Readers.{Outcome, Reader, and_then, ◌>>=◌, pure, refuse, look, on, expect, rounds, repeat, deny, chain, begin, not_taken, above}
-use Rattle.token_readers.proofs.Laws.{Sane, Opens}
-use Rattle.token_readers.proofs.Wider.{Wider}
-use Rattle.token_readers.proofs.Begin.{Takes}
-use Rattle.token_readers.proofs.Sets.{Follow, May, within, may_within, past, may_past, allows, Within, plain, is_plain, apart, subset, among_apart, among_subset, sees_apart, sees_subset, and_within, among_subset_one}
-use Rattle.token_readers.proofs.Spells.{Spell, respelled, Same, same, made, Nothing, On, took, passed, on_passes, Look, here, there, Above, positive, Rounds, stopped, round}
-use Rattle.token_readers.proofs.Good.{Good, Part, Laws, part_of, good_of, part_lifted, lifted, good_as, part_as, anywhere, good_pure, part_refuse, good_then, part_then, part_on, part_begin, good_option, good_begin_option, part_look, Taken, taken, good_expect, good_repeat, good_chain}
+use Rattle.token_readers.specs.Readers.{Reader, and_then, ◌>>=◌, pure, refuse, on, expect, repeat, chain, begin, above}
+use Rattle.token_readers.proofs.Laws.{Opens}
+use Rattle.token_readers.proofs.Sets.{Follow, May, within, past, may_past, plain, apart, subset, among_apart, among_subset, sees_apart, sees_subset, and_within, among_subset_one}
+use Rattle.token_readers.proofs.Spells.{Same, same, made, Nothing, On, took, passed, on_passes, Above, positive}
+use Rattle.token_readers.proofs.Good.{Good, Part, part_of, good_of, part_lifted, lifted, good_as, part_as, anywhere, good_pure, part_refuse, good_then, part_on, part_begin, good_option, good_begin_option, Taken, taken, good_expect, good_chain}
 use Rattle.token_readers.proofs.Loops.{denies, chain_ends}
 use Rattle.token_readers.proofs.Begin.{Begins, begins_bind}
 use Rattle.token_readers.proofs.Laws.{Any}
 use Rattle.token_readers.proofs.More.{good_under, opens_took, begin_passes, part_above}
-use Rattle.script_readers.specs.Expressions.{Inside, closed, separated, each, listed, name, parameters, body, lambda, named, expr_firsts, base_firsts, primary_firsts, arguments, primary, new, base, member_of, index_of, call_of, suffix, denied, suffixed, callee, postfix, unary, operand_of, chained, binary, choices, conditional, assign, valued, getter, setter, member, otherwise_of}
-use Rattle.script_readers.proofs.Samples.{close, open_token, close_bracket, open_brace, close_brace, semicolon, colon, dollar, is_close, is_open, is_close_bracket, is_open_brace, is_close_brace, is_semicolon, is_colon, is_name}
+use Rattle.script_readers.specs.Expressions.{Inside, closed, separated, each, listed, body, lambda, named, expr_firsts, base_firsts, primary_firsts, arguments, primary, new, base, member_of, index_of, call_of, suffix, denied, suffixed, callee, postfix, unary, operand_of, chained, binary, choices, conditional, assign, otherwise_of}
+use Rattle.script_readers.proofs.Samples.{close, open_token, close_bracket, open_brace, close_brace, colon, dollar, is_close, is_open, is_close_bracket, is_open_brace, is_close_brace, is_colon, is_name}
 use Rattle.script_readers.specs.Expressions.{not_comma, next_item}
-use Rattle.script_readers.proofs.Lists.{closers, closer, ender, good_others, Closed, closed_by, good_closed, good_each, good_separated, good_listed, Name, is_a_name, good_name, good_parameters, close_opens}
+use Rattle.script_readers.proofs.Lists.{closer, ender, good_others, Closed, closed_by, good_closed, good_each, good_separated, good_listed, good_parameters, close_opens}
 
 -- what is known of the parts one level deeper: their readers i, the same at wider limits, and what they spell
 pub record Inner (p : Bool) (left left' : ℕ) (P : Parts) (Applied : Spelling Expr) (i i' : Inside) : Type 0 where

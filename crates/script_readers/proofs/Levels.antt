@@ -1,44 +1,20 @@
 -- Each level has its laws where the level below has them.
-use Rattle.std.proofs.Common.{◌≡◌, ◌==◌, ◌||◌, ◌&&◌, ℕ, zero, suc, ◌+◌, ◌<◌, ◌≤◌, Bool, true, false, not, cond, List, [], ◌∷◌, ◌++◌, length, Option, Some, None, Result, Ok, Err, refl, sym, ap, subst, ◌∙◌, append_assoc, arith}
-use Rattle.std.proofs.lemmas.List.{append-nil}
+use Rattle.std.proofs.Common.{◌≡◌, ℕ, zero, suc, ◌+◌, ◌≤◌, Bool, true, false, refl, arith}
 use Rattle.js_syntax.specs.declared.token.Token.{Token}
-use Rattle.js_syntax.specs.declared.symbol.Symbol.{Symbol}
 use Rattle.js_syntax.specs.declared.symbol.Symbol.TheVariants as s
-use Rattle.js_syntax.specs.declared.parse_fault.ParseKind.{ParseKind}
-use Rattle.js_syntax.specs.declared.parse_fault.ParseKind.TheVariants.{Unexpected, TooDeep}
 use Rattle.js_syntax.specs.declared.tree.Expr.{Expr}
-use Rattle.js_syntax.specs.declared.tree.Expr.TheVariants as ex
-use Rattle.js_syntax.specs.declared.tree.Property.{Property}
-use Rattle.js_syntax.specs.declared.tree.Property.TheVariants as property
-use Rattle.js_syntax.specs.declared.tree.Function.{Function}
-use Rattle.js_syntax.specs.declared.tree.Declaration.{Declaration}
-use Rattle.js_syntax.specs.declared.tree.Catch.{Catch}
-use Rattle.js_syntax.specs.declared.tree.ForStart.{ForStart}
-use Rattle.js_syntax.specs.declared.tree.ForStart.TheVariants as start
-use Rattle.js_syntax.specs.declared.tree.ForTarget.{ForTarget}
-use Rattle.js_syntax.specs.declared.tree.ForTarget.TheVariants as target
-use Rattle.js_syntax.specs.declared.tree.Stmt.{Stmt}
-use Rattle.js_syntax.specs.declared.tree.Stmt.TheVariants as st
-use Rattle.js_syntax.specs.Symbols.{Tokens, next, is, among, sees, stops, symbol_of}
-use Rattle.js_syntax.specs.Spelling.{Spelling, Both, both, Each, Links, Listed, Separated}
-use Rattle.js_syntax.specs.Spelling as sp
-use Rattle.js_syntax.specs.Words.{names, member_names, keys, plain_keys, leaves, leaf_of, is_target, suffixes, member_suffixes, updates, update_of, is_postfix, prefixes, prefixed, operators, operation, assignments, assignment, assigns, closes_body, ends_line}
-use Rattle.js_syntax.specs.Grammar.{Parts, is_known, Names, Parameters, Body, Lambda, Named, Arguments, Primary, New, Base, Suffix, Suffixed, Callee, Unary, Operand, Chain, Binary, Conditional, Assign, Member, Ends, Stops, Block, Declared, Condition, Otherwise, Optional, Start, Target, Handlers, Statement, LEVELS_OF_CHAINS, not_first, parts_within}
-use Rattle.js_syntax.specs.Grammar as g
-use Rattle.token_readers.specs.Readers.{Outcome, Reader, and_then, ◌>>=◌, pure, refuse, look, on, expect, rounds, repeat, deny, chain, begin, not_taken, above}
-use Rattle.token_readers.proofs.Laws.{Sane, Opens}
-use Rattle.token_readers.proofs.Wider.{Wider}
+use Rattle.js_syntax.specs.Symbols.{is, among}
+use Rattle.js_syntax.specs.Spelling.{Spelling}
+use Rattle.js_syntax.specs.Grammar.{Parts, Callee, Unary, Assign, Member, Block, Statement, parts_within}
+use Rattle.token_readers.specs.Readers.{Reader, not_taken}
+use Rattle.token_readers.proofs.Laws.{Sane}
 use Rattle.token_readers.proofs.Begin.{Takes}
-use Rattle.token_readers.proofs.Sets.{Follow, May, within, may_within, past, may_past, allows, Within, plain, is_plain, apart, subset, among_apart, among_subset, sees_apart, sees_subset, and_within, among_subset_one}
-use Rattle.token_readers.proofs.Spells.{Spell, respelled, Same, same, made, Nothing, On, took, passed, on_passes, Look, here, there, Above, positive, Rounds, stopped, round}
-use Rattle.token_readers.proofs.Good.{Good, Part, Laws, part_of, good_of, part_lifted, lifted, good_as, part_as, anywhere, good_pure, part_refuse, good_then, part_then, part_on, part_begin, good_option, good_begin_option, part_look, Taken, taken, good_expect, good_repeat, good_chain}
-use Rattle.token_readers.proofs.Loops.{denies, deny_passes, chain_ends, sane_denied, denied_at, deny_at, deny_nothing}
-use Rattle.token_readers.proofs.Begin.{Begins, begins_bind, begins_refuse}
-use Rattle.token_readers.proofs.Laws.{Any}
-use Rattle.token_readers.proofs.More.{good_under, opens_took, begin_passes, part_above, begins_with, begins_above, begins_alike}
-use Rattle.script_readers.specs.Expressions.{Inside, closed, not_comma, next_item, separated, each, listed, name, parameters, body, lambda, named, expr_firsts, base_firsts, primary_firsts, arguments, primary, new, base, member_of, index_of, call_of, suffix, denied, suffixed, callee, postfix, unary, operand_of, chained, binary, choices, conditional, assign, accept, new_applied, target_base, applied, target_chain, update_target, valued, getter, setter, member, member_firsts}
-use Rattle.script_readers.proofs.Samples.{close, open_token, close_bracket, open_brace, close_brace, semicolon, colon, dot, dollar, finally_token, is_close, is_open, is_close_bracket, is_open_brace, is_close_brace, is_semicolon, is_colon, is_dot, is_name, is_finally}
-use Rattle.script_readers.proofs.Lists.{closers, closer, ender, good_others, Closed, closed_by, good_closed, good_each, good_separated, good_listed, Name, is_a_name, good_name, good_parameters, close_opens}
+use Rattle.token_readers.proofs.Sets.{Follow, May}
+use Rattle.token_readers.proofs.Spells.{Nothing, positive}
+use Rattle.token_readers.proofs.Good.{Good, Part, Laws, part_of}
+use Rattle.token_readers.proofs.Begin.{Begins}
+use Rattle.script_readers.specs.Expressions.{Inside, expr_firsts, base_firsts, callee, unary, assign, applied, update_target, member, member_firsts}
+use Rattle.script_readers.proofs.Lists.{closer, ender}
 use Rattle.script_readers.proofs.Forms as forms
 use Rattle.script_readers.proofs.Forms.{Inner}
 use Rattle.token_readers.proofs.Begin.{sane_not_taken, wider_not_taken}

@@ -1,9 +1,9 @@
 -- One turn of a chain with a limit, by what its next token is.
-use Rattle.std.proofs.Common.{◌≡◌, ℕ, zero, suc, Bool, true, false, cond, List, [], ◌∷◌, Option, Some, None, Result, Ok, Err, refl, sym, ap, ◌∙◌}
+use Rattle.std.proofs.Common.{◌≡◌, ℕ, suc, Bool, true, false, cond, [], ◌∷◌, Option, Some, None, Ok, Err, refl, ap, ◌∙◌}
 use Rattle.js_syntax.specs.declared.token.Token.{Token}
 use Rattle.js_syntax.specs.declared.parse_fault.ParseKind.TheVariants.{TooDeep}
 use Rattle.js_syntax.specs.Symbols.{Tokens, next, sees}
-use Rattle.token_readers.specs.Readers.{Reader, and_then, ◌>>=◌, pure, refuse, on, deny, chain}
+use Rattle.token_readers.specs.Readers.{Reader, and_then, ◌>>=◌, pure, on, deny, chain}
 use Rattle.token_readers.proofs.Loops.{denies, deny_passes}
 use Rattle.token_readers.proofs.Spells.{on_passes}
 

@@ -1,12 +1,12 @@
 -- Tokens have one first fault at most, and none where they are a script.
-use Rattle.std.proofs.Common.{◌≡◌, ℕ, List, [], ◌∷◌, ◌++◌, refl, sym, ap, subst, ◌∙◌, append_assoc}
+use Rattle.std.proofs.Common.{◌≡◌, ℕ, [], ◌∷◌, ◌++◌, refl, sym, ap, subst, ◌∙◌, append_assoc}
 use Rattle.js_syntax.specs.declared.token.Token.{Token}
 use Rattle.js_syntax.specs.declared.parse_fault.ParseFault.{ParseFault}
 use Rattle.js_syntax.specs.declared.parse_fault.ParseKind.{ParseKind}
 use Rattle.js_syntax.specs.declared.parse_fault.ParseKind.TheVariants.{Unexpected, TooDeep}
 use Rattle.js_syntax.specs.declared.tree.Script.{Script}
 use Rattle.js_syntax.specs.Symbols.{Tokens}
-use Rattle.js_syntax.specs.Scripts.{IsScript, IsFront, IsAnyFront, IsKind, IsFirstFault}
+use Rattle.js_syntax.specs.Scripts.{IsScript, IsFront, IsKind, IsFirstFault}
 
 -- a script has each of its fronts
 pub script_has : (chains levels : ℕ) (ts : Tokens) (script : Script) → IsScript chains levels ts script → (fault : ParseFault) → IsFirstFault chains levels ts fault → ⊥

@@ -1,15 +1,13 @@
 -- Tokens that complete what was begun.
-use Rattle.std.proofs.Common.{◌≡◌, ◌==◌, ◌||◌, ◌&&◌, ℕ, zero, suc, ◌+◌, ◌<◌, ◌≤◌, Bool, true, false, not, cond, List, [], ◌∷◌, ◌++◌, length, Option, Some, None, Result, Ok, Err, refl, sym, ap, subst, ◌∙◌, arith}
+use Rattle.std.proofs.Common.{◌≡◌, ◌==◌, ◌||◌, ◌&&◌, ℕ, zero, suc, ◌+◌, ◌<◌, Bool, true, false, cond, List, [], ◌∷◌, length, refl, ap, ◌∙◌, arith}
 use Rattle.std.specs.Prelude.{codes, nat_eq}
 use Rattle.std.specs.Str.{bytes_eq}
 use Rattle.js_syntax.specs.declared.token.Token.{Token}
-use Rattle.js_syntax.specs.declared.token.TokenKind.{TokenKind}
 use Rattle.js_syntax.specs.declared.token.TokenKind.TheVariants as kind
-use Rattle.js_syntax.specs.declared.symbol.Symbol.{Symbol}
 use Rattle.js_syntax.specs.declared.symbol.Symbol.TheVariants as s
-use Rattle.js_syntax.specs.Symbols.{Tokens, next, is, among, sees, stops, symbol_of, number, word_of, mark_of, all_continue}
+use Rattle.js_syntax.specs.Symbols.{is, among, symbol_of, number, word_of, mark_of, all_continue}
 use Rattle.js_syntax.specs.Grammar.{is_known}
-use Rattle.js_syntax.specs.Words.{names, member_names, keys, plain_keys, leaves}
+use Rattle.js_syntax.specs.Words.{names}
 
 abbrev pub mark : List ℕ → Token
 mark text = record { kind = kind.Punct; text = text; from = 0; to = 0; line_before = false }

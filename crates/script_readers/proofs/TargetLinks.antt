@@ -1,11 +1,11 @@
 -- One turn of the suffixes of the operand of a `++` or `--`, by what its next token is.
-use Rattle.std.proofs.Common.{◌≡◌, ℕ, zero, suc, ◌+◌, ◌-◌, ◌<◌, Bool, true, false, cond, List, [], ◌∷◌, Option, Some, None, Result, Ok, Err, refl, sym, ap, ◌∙◌, arith}
+use Rattle.std.proofs.Common.{◌≡◌, ℕ, suc, ◌+◌, ◌-◌, ◌<◌, true, false, ◌∷◌, Err, ◌∙◌, arith}
 use Rattle.js_syntax.specs.declared.token.Token.{Token}
 use Rattle.js_syntax.specs.declared.parse_fault.ParseKind.TheVariants.{TooDeep}
 use Rattle.js_syntax.specs.declared.tree.Expr.{Expr}
 use Rattle.js_syntax.specs.Symbols.{Tokens, next, sees, among}
 use Rattle.js_syntax.specs.Words.{suffixes}
-use Rattle.token_readers.specs.Readers.{Outcome, Reader, and_then, ◌>>=◌, on, deny}
+use Rattle.token_readers.specs.Readers.{Reader, and_then, ◌>>=◌, on}
 use Rattle.token_readers.proofs.Loops.{denies, deny_passes}
 use Rattle.token_readers.proofs.Spells.{on_passes}
 use Rattle.script_readers.specs.Expressions.{Inside, denied, suffix, accept, target_chain}

@@ -1,23 +1,23 @@
 -- The statements at the top: their laws, and that a script is what is read.
-use Rattle.std.proofs.Common.{◌≡◌, ◌==◌, ◌||◌, ℕ, zero, suc, ◌+◌, ◌<◌, ◌≤◌, Bool, true, false, cond, List, [], ◌∷◌, ◌++◌, Option, Some, None, Result, Ok, Err, refl, sym, ap, subst, ◌∙◌, arith}
+use Rattle.std.proofs.Common.{◌≡◌, ℕ, ◌+◌, ◌≤◌, Bool, true, false, cond, List, [], ◌∷◌, Result, Ok, Err, refl, ap, subst, ◌∙◌}
 use Rattle.js_syntax.specs.declared.token.Token.{Token}
 use Rattle.js_syntax.specs.declared.symbol.Symbol.TheVariants as s
 use Rattle.js_syntax.specs.declared.parse_fault.ParseKind.{ParseKind}
 use Rattle.js_syntax.specs.declared.parse_fault.ParseKind.TheVariants.{Unexpected}
 use Rattle.js_syntax.specs.declared.tree.Script.{Script}
 use Rattle.js_syntax.specs.declared.tree.Stmt.{Stmt}
-use Rattle.js_syntax.specs.Symbols.{Tokens, next, is, among, sees, stops}
+use Rattle.js_syntax.specs.Symbols.{Tokens, next, is, stops}
 use Rattle.js_syntax.specs.Spelling.{Each}
 use Rattle.js_syntax.specs.Words.{closes_body}
 use Rattle.js_syntax.specs.Grammar.{parts_within}
 use Rattle.js_syntax.specs.Scripts.{IsScript}
-use Rattle.token_readers.specs.Readers.{Outcome, Reader}
+use Rattle.token_readers.specs.Readers.{Outcome}
 use Rattle.token_readers.proofs.Laws.{Sane}
 use Rattle.token_readers.proofs.Wider.{Wider}
 use Rattle.token_readers.proofs.Loops.{repeat_ends}
-use Rattle.token_readers.proofs.Sets.{Follow, May, among_subset_one}
+use Rattle.token_readers.proofs.Sets.{May, among_subset_one}
 use Rattle.token_readers.proofs.Spells.{Spell}
-use Rattle.token_readers.proofs.Good.{Good, Part}
+use Rattle.token_readers.proofs.Good.{Good}
 use Rattle.script_readers.specs.Expressions.{each, one_more}
 use Rattle.script_readers.specs.Statements.{within, top, finish, finish_after, script}
 use Rattle.script_readers.proofs.Samples.{end, is_end}

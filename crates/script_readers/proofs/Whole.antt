@@ -1,15 +1,14 @@
 -- The first fault, by what is spelled.
-use Rattle.std.proofs.Common.{◌≡◌, ℕ, ◌+◌, ◌≤◌, List, [], ◌∷◌, ◌++◌, Result, Ok, Err, refl, sym, ap, subst, ◌∙◌, append_assoc, arith}
+use Rattle.std.proofs.Common.{◌≡◌, ℕ, ◌+◌, ◌≤◌, [], ◌∷◌, ◌++◌, Ok, Err, sym, ap, subst, ◌∙◌, append_assoc, arith}
 use Rattle.js_syntax.specs.declared.token.Token.{Token}
-use Rattle.js_syntax.specs.declared.parse_fault.ParseFault.{ParseFault}
 use Rattle.js_syntax.specs.declared.parse_fault.ParseKind.{ParseKind}
 use Rattle.js_syntax.specs.declared.parse_fault.ParseKind.TheVariants.{Unexpected, TooDeep}
 use Rattle.js_syntax.specs.declared.tree.Script.{Script}
 use Rattle.js_syntax.specs.Symbols.{Tokens}
-use Rattle.js_syntax.specs.Scripts.{IsScript, IsFront, IsAnyFront, IsKind, IsFirstFault, EndsWell}
+use Rattle.js_syntax.specs.Scripts.{IsScript, IsKind, IsFirstFault, EndsWell}
 use Rattle.script_readers.specs.Statements.{script}
 use Rattle.script_readers.specs.Places.{place}
-use Rattle.script_readers.proofs.Faults.{FaultAt, fault_at, deeper, unexpected_stays}
+use Rattle.script_readers.proofs.Faults.{fault_at, deeper, unexpected_stays}
 use Rattle.script_readers.proofs.Tops.{script_sound, script_again}
 use Rattle.script_readers.proofs.Widening.{script_widens}
 

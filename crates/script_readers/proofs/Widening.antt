@@ -1,14 +1,9 @@
 -- A script within limits is one within wider limits.
-use Rattle.std.proofs.Common.{◌≡◌, ℕ, zero, suc, ◌+◌, ◌<◌, ◌≤◌, Bool, true, false, List, [], ◌∷◌, Option, Some, None, refl, sym, ap, subst, ◌∙◌, arith}
+use Rattle.std.proofs.Common.{ℕ, zero, suc, ◌≤◌, Bool, true, false, List, [], ◌∷◌, Option, Some, None, arith}
 use Rattle.js_syntax.specs.declared.token.Token.{Token}
 use Rattle.js_syntax.specs.declared.symbol.Symbol.{Symbol}
 use Rattle.js_syntax.specs.declared.tree.Expr.{Expr}
-use Rattle.js_syntax.specs.declared.tree.Property.{Property}
-use Rattle.js_syntax.specs.declared.tree.Function.{Function}
-use Rattle.js_syntax.specs.declared.tree.Declaration.{Declaration}
 use Rattle.js_syntax.specs.declared.tree.Catch.{Catch}
-use Rattle.js_syntax.specs.declared.tree.ForStart.{ForStart}
-use Rattle.js_syntax.specs.declared.tree.ForTarget.{ForTarget}
 use Rattle.js_syntax.specs.declared.tree.Script.{Script}
 use Rattle.js_syntax.specs.declared.tree.Stmt.{Stmt}
 use Rattle.js_syntax.specs.Symbols.{Tokens, among}

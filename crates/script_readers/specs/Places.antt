@@ -1,5 +1,5 @@
 -- Where tokens stand.
-use Rattle.std.specs.Prelude.{ℕ, List, [], ◌∷◌}
+use Rattle.std.specs.Prelude.{ℕ, [], ◌∷◌}
 use Rattle.js_syntax.specs.Symbols.{Tokens}
 
 -- the place of the first token

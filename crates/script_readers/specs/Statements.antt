@@ -1,15 +1,11 @@
 -- Reading statements and scripts from left to right, up to the first token that no form takes.
-use Rattle.std.specs.Prelude.{◌≡◌, ℕ, zero, suc, Bool, true, false, not, ◌||◌, ◌&&◌, cond, List, [], ◌∷◌, ◌++◌, Option, Some, None, Result, Ok, Err}
+use Rattle.std.specs.Prelude.{ℕ, zero, suc, Bool, true, false, ◌||◌, ◌&&◌, cond, List, [], ◌∷◌, Option, Some, None, Result, Ok, Err}
 use Rattle.js_syntax.specs.declared.token.Token.{Token}
 use Rattle.js_syntax.specs.declared.symbol.Symbol.{Symbol}
 use Rattle.js_syntax.specs.declared.symbol.Symbol.TheVariants as s
 use Rattle.js_syntax.specs.declared.parse_fault.ParseKind.{ParseKind}
-use Rattle.js_syntax.specs.declared.parse_fault.ParseKind.TheVariants.{Unexpected, TooDeep}
+use Rattle.js_syntax.specs.declared.parse_fault.ParseKind.TheVariants.{Unexpected}
 use Rattle.js_syntax.specs.declared.tree.Expr.{Expr}
-use Rattle.js_syntax.specs.declared.tree.Expr.TheVariants as ex
-use Rattle.js_syntax.specs.declared.tree.Property.{Property}
-use Rattle.js_syntax.specs.declared.tree.Property.TheVariants as property
-use Rattle.js_syntax.specs.declared.tree.Function.{Function}
 use Rattle.js_syntax.specs.declared.tree.Declaration.{Declaration}
 use Rattle.js_syntax.specs.declared.tree.Catch.{Catch}
 use Rattle.js_syntax.specs.declared.tree.ForStart.{ForStart}
@@ -18,10 +14,9 @@ use Rattle.js_syntax.specs.declared.tree.ForTarget.{ForTarget}
 use Rattle.js_syntax.specs.declared.tree.ForTarget.TheVariants as target
 use Rattle.js_syntax.specs.declared.tree.Stmt.{Stmt}
 use Rattle.js_syntax.specs.declared.tree.Stmt.TheVariants as st
-use Rattle.js_syntax.specs.Symbols.{Tokens, next, is, among, sees, stops, symbol_of}
-use Rattle.js_syntax.specs.Words.{names, member_names, keys, plain_keys, leaves, leaf_of, is_target, suffixes, member_suffixes, updates, update_of, is_postfix, prefixes, prefixed, operators, operation, assignments, assignment, assigns, closes_body, ends_line}
-use Rattle.js_syntax.specs.Grammar.{is_known, LEVELS_OF_CHAINS}
-use Rattle.token_readers.specs.Readers.{Outcome, Reader, and_then, ◌>>=◌, pure, refuse, look, on, expect, rounds, repeat, deny, chain, begin, not_taken, above}
+use Rattle.js_syntax.specs.Symbols.{Tokens, is, among, sees}
+use Rattle.js_syntax.specs.Words.{is_target, closes_body, ends_line}
+use Rattle.token_readers.specs.Readers.{Outcome, Reader, ◌>>=◌, pure, refuse, look, on, expect, repeat, begin, not_taken}
 use Rattle.js_syntax.specs.declared.tree.Script.{Script}
 use Rattle.script_readers.specs.Expressions.{Inside, closed, not_comma, next_item, separated, each, name, lambda, assign, unary, update_target, callee, applied, member, member_firsts, expr_firsts, base_firsts}
 

@@ -143,3 +143,40 @@ fn mixed(rt: HostRuntime) -> Result<(), Fail> {
     assert_eq!(rt; too_deep(alloc, &text)?, None);
     Ok(())
 }
+
+/// The first fault of a text; none where it is a script, has no tokens or is too long.
+fn fault_of(alloc: Global, text: &str) -> Result<Option<ParseFault>, Fail> {
+    if text.len() > SOURCE_LIMIT {
+        return Ok(None);
+    }
+    match read(alloc, text)? {
+        Some(Err(fault)) => Ok(Some(fault)),
+        _ => Ok(None),
+    }
+}
+
+/// A function of 30,000 parameters, and of another.
+fn parameters(alloc: Global, last: &str) -> Result<String, Fail> {
+    let mut text = String::from_str(alloc, "function f(")?;
+    for number in 0..30_000u32 {
+        text.push_str(&format!(in alloc; "a{number},")?)?;
+    }
+    text.push_str(last)?;
+    text.push_str("){}")?;
+    Ok(text)
+}
+
+/// Very many parameters are told apart, and a name that stands twice is the fault.
+#[test]
+fn many_parameters(rt: HostRuntime) -> Result<(), Fail> {
+    let alloc = rt.alloc();
+    let text = parameters(alloc, "b")?;
+    assert_eq!(rt; too_deep(alloc, &text)?, None);
+    let text = parameters(alloc, "a0")?;
+    let twice = ParseFault {
+        at: 198_901,
+        kind: ParseKind::Unexpected,
+    };
+    assert_eq!(rt; fault_of(alloc, &text)?, Some(twice));
+    Ok(())
+}

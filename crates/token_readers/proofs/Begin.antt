@@ -1,13 +1,13 @@
 -- Forms that are begun only where a part of them may stand.
-use Rattle.std.proofs.Common.{◌≡◌, ℕ, zero, suc, ◌+◌, ◌<◌, ◌≤◌, Bool, true, false, not, ◌||◌, ◌&&◌, cond, List, [], ◌∷◌, ◌++◌, length, Option, Some, None, Result, Ok, Err, refl, sym, ap, subst, ◌∙◌, arith}
+use Rattle.std.proofs.Common.{◌≡◌, ℕ, zero, suc, ◌<◌, Bool, true, false, not, ◌||◌, ◌&&◌, cond, [], ◌∷◌, length, Option, Ok, Err, refl, ap, arith}
 use Rattle.js_syntax.specs.declared.token.Token.{Token}
 use Rattle.js_syntax.specs.declared.symbol.Symbol.TheVariants.{End}
 use Rattle.js_syntax.specs.declared.parse_fault.ParseKind.{ParseKind}
 use Rattle.js_syntax.specs.declared.parse_fault.ParseKind.TheVariants.{Unexpected, TooDeep}
 use Rattle.js_syntax.specs.Symbols.{Tokens, next, is, sees}
-use Rattle.token_readers.specs.Readers.{Outcome, Reader, and_then, ◌>>=◌, pure, refuse, look, on, begin, not_taken}
-use Rattle.token_readers.proofs.Laws.{Any, Law, Sane, Opens, sane_on, sane_deny, sane_refuse}
-use Rattle.token_readers.proofs.Wider.{Wider, Grows, Further, GrowsAtFault, cond_grows, wider_on, wider_deny, sane_shrinks, further_then}
+use Rattle.token_readers.specs.Readers.{Outcome, Reader, and_then, ◌>>=◌, refuse, look, on, begin, not_taken}
+use Rattle.token_readers.proofs.Laws.{Any, Sane, Opens, sane_on, sane_deny, sane_refuse}
+use Rattle.token_readers.proofs.Wider.{Wider, Grows, Further, wider_on, wider_deny, sane_shrinks, further_then}
 
 pub sane_begin : {A : Type 0} (F : Tokens → Type 0) (left : ℕ) (q : Token → Bool) (s : Token → Reader A) (r : Reader A)
     → ((t : Token) → q t ≡ true → is End t ≡ false) → ((n : ℕ) → left ≡ suc n → (t : Token) → q t ≡ true → Sane F (s t)) → ((n : ℕ) → left ≡ suc n → (t : Token) → q t ≡ true → Opens Any F (s t)) → Sane F r

@@ -1,16 +1,14 @@
 -- A reader with all its laws, beside the same reader at wider limits: the laws of a form are put together from those of its parts.
-use Rattle.std.proofs.Common.{◌≡◌, ◌==◌, ℕ, zero, suc, ◌+◌, ◌<◌, ◌≤◌, Bool, true, false, not, ◌||◌, ◌&&◌, cond, List, [], ◌∷◌, ◌++◌, length, Option, Some, None, Result, Ok, Err, refl, sym, ap, subst, ◌∙◌, append_assoc, arith}
+use Rattle.std.proofs.Common.{◌≡◌, ℕ, zero, suc, ◌<◌, ◌≤◌, Bool, true, false, not, ◌||◌, cond, List, [], ◌∷◌, ◌++◌, length, Option, Some, None, Ok, Err, refl, sym, ap, subst, ◌∙◌, append_assoc, arith}
 use Rattle.std.proofs.lemmas.List.{length-append}
 use Rattle.js_syntax.specs.declared.token.Token.{Token}
 use Rattle.js_syntax.specs.declared.symbol.Symbol.{Symbol}
-use Rattle.js_syntax.specs.declared.symbol.Symbol.TheVariants as s
-use Rattle.js_syntax.specs.declared.parse_fault.ParseKind.{ParseKind}
 use Rattle.js_syntax.specs.declared.parse_fault.ParseKind.TheVariants.{Unexpected, TooDeep}
-use Rattle.js_syntax.specs.Symbols.{Tokens, next, is, among, sees, stops, symbol_of, number}
-use Rattle.js_syntax.specs.Spelling.{Spelling, Both, Each, Links}
-use Rattle.token_readers.specs.Readers.{Outcome, Reader, and_then, ◌>>=◌, pure, refuse, look, on, expect, rounds, repeat, deny, chain, begin, not_taken}
-use Rattle.token_readers.proofs.Laws.{Law, Sane, Opens, sane_pure, sane_refuse, sane_on, sane_deny, sane_look, sane_bind, never}
-use Rattle.token_readers.proofs.Wider.{Wider, Further, wider_pure, wider_unexpected, wider_on, wider_look, wider_bind, wider_deny}
+use Rattle.js_syntax.specs.Symbols.{Tokens, next, is, sees, stops}
+use Rattle.js_syntax.specs.Spelling.{Spelling, Both, Links}
+use Rattle.token_readers.specs.Readers.{Outcome, Reader, and_then, ◌>>=◌, pure, refuse, look, on, expect, repeat, chain, begin}
+use Rattle.token_readers.proofs.Laws.{Law, Sane, Opens, sane_pure, sane_refuse, sane_on, sane_look, sane_bind}
+use Rattle.token_readers.proofs.Wider.{Wider, wider_pure, wider_unexpected, wider_on, wider_look, wider_bind}
 use Rattle.token_readers.proofs.Loops.{denies, Links as ChainLinks, Repeats, chain_ends, sane_chain, wider_chain, repeat_opens, sane_repeat, wider_repeat}
 use Rattle.token_readers.proofs.Begin.{sane_begin, wider_begin, Takes, TookSome, takes_refuse, takes_on, takes_begin, takes_look, takes_bind, takes_less}
 use Rattle.token_readers.proofs.Sets.{among_subset_one, Follow, May, within, may_within, past, may_past, allows, Within, plain, is_plain}

@@ -1,11 +1,10 @@
 -- What each reader keeps to, and that the steps keep it.
-use Rattle.std.proofs.Common.{◌≡◌, ℕ, zero, suc, Bool, true, false, cond, List, [], ◌∷◌, ◌++◌, length, Option, Some, None, Result, Ok, Err, refl, sym, ap, subst, ◌∙◌, append_assoc, arith, inl, inr, ◌⊎◌}
+use Rattle.std.proofs.Common.{◌≡◌, Bool, true, false, cond, [], ◌∷◌, ◌++◌, Option, Ok, Err, refl, sym, ap, ◌∙◌, append_assoc}
 use Rattle.js_syntax.specs.declared.token.Token.{Token}
 use Rattle.js_syntax.specs.declared.symbol.Symbol.TheVariants.{End}
 use Rattle.js_syntax.specs.declared.parse_fault.ParseKind.{ParseKind}
-use Rattle.js_syntax.specs.declared.parse_fault.ParseKind.TheVariants.{Unexpected, TooDeep}
 use Rattle.js_syntax.specs.Symbols.{Tokens, next, is, sees}
-use Rattle.token_readers.specs.Readers.{Outcome, Reader, and_then, ◌>>=◌, pure, refuse, look, on, expect}
+use Rattle.token_readers.specs.Readers.{Outcome, Reader, and_then, ◌>>=◌, pure, refuse, look, on}
 
 abbrev pub Any : Tokens → Type 0
 Any ts = Unit {0}

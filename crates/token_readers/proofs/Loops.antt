@@ -1,13 +1,12 @@
 -- Loops keep the laws.
-use Rattle.std.proofs.Common.{◌≡◌, ℕ, zero, suc, ◌+◌, ◌<◌, ◌≤◌, Bool, true, false, cond, not, ◌&&◌, List, [], ◌∷◌, ◌++◌, length, Option, Some, None, Result, Ok, Err, refl, sym, ap, subst, ◌∙◌, append_assoc, arith}
+use Rattle.std.proofs.Common.{◌≡◌, ℕ, zero, suc, ◌<◌, ◌≤◌, Bool, true, false, cond, not, ◌&&◌, [], ◌∷◌, ◌++◌, length, Option, Some, None, Ok, Err, refl, sym, ap, subst, ◌∙◌, append_assoc, arith}
 use Rattle.js_syntax.specs.declared.token.Token.{Token}
 use Rattle.js_syntax.specs.declared.symbol.Symbol.TheVariants.{End}
-use Rattle.js_syntax.specs.declared.parse_fault.ParseKind.{ParseKind}
-use Rattle.js_syntax.specs.declared.parse_fault.ParseKind.TheVariants.{Unexpected, TooDeep}
+use Rattle.js_syntax.specs.declared.parse_fault.ParseKind.TheVariants.{TooDeep}
 use Rattle.js_syntax.specs.Symbols.{Tokens, next, is, sees, stops}
 use Rattle.token_readers.specs.Readers.{Outcome, Reader, and_then, ◌>>=◌, pure, refuse, look, on, rounds, repeat, deny, chain}
-use Rattle.token_readers.proofs.Laws.{Any, Law, Sane, Opens, Passed, sane_pure, sane_refuse, sane_on, sane_deny, sane_then, sane_look, sane_bind, bind_at, carry, law_alike}
-use Rattle.token_readers.proofs.Wider.{Wider, Grows, Further, cond_grows, sane_shrinks, wider_pure, wider_on, wider_deny, wider_bind, wider_look}
+use Rattle.token_readers.proofs.Laws.{Any, Law, Sane, Opens, sane_pure, sane_on, sane_deny, sane_then, sane_look, bind_at, carry, law_alike}
+use Rattle.token_readers.proofs.Wider.{Wider, Grows, cond_grows, sane_shrinks, wider_pure, wider_deny, wider_bind, wider_look}
 
 -- ---- at most so many
 

@@ -1,18 +1,16 @@
 -- Parts past the last level, completions of one token, and what begins a form.
-use Rattle.std.proofs.Common.{◌≡◌, ◌==◌, ℕ, zero, suc, ◌+◌, ◌<◌, ◌≤◌, Bool, true, false, not, ◌||◌, ◌&&◌, cond, List, [], ◌∷◌, ◌++◌, length, Option, Some, None, Result, Ok, Err, refl, sym, ap, subst, ◌∙◌, append_assoc, arith}
+use Rattle.std.proofs.Common.{◌≡◌, ℕ, zero, suc, Bool, true, false, ◌||◌, cond, List, [], ◌∷◌, ◌++◌, Option, Some, None, Err, refl, sym, ap, ◌∙◌}
 use Rattle.js_syntax.specs.declared.token.Token.{Token}
 use Rattle.js_syntax.specs.declared.symbol.Symbol.{Symbol}
-use Rattle.js_syntax.specs.declared.symbol.Symbol.TheVariants as s
-use Rattle.js_syntax.specs.declared.parse_fault.ParseKind.{ParseKind}
 use Rattle.js_syntax.specs.declared.parse_fault.ParseKind.TheVariants.{Unexpected, TooDeep}
-use Rattle.js_syntax.specs.Symbols.{Tokens, next, is, among, sees, stops, symbol_of, number}
+use Rattle.js_syntax.specs.Symbols.{Tokens, next, among, sees}
 use Rattle.js_syntax.specs.Spelling.{Spelling}
-use Rattle.token_readers.specs.Readers.{Outcome, Reader, and_then, ◌>>=◌, pure, refuse, look, on, begin, not_taken, above}
+use Rattle.token_readers.specs.Readers.{Reader, refuse, on, begin, not_taken, above}
 use Rattle.token_readers.proofs.Laws.{Sane, Opens}
 use Rattle.token_readers.proofs.Wider.{Wider}
 use Rattle.token_readers.proofs.Begin.{sane_not_taken, Takes, takes_look, takes_refuse, Begins, begins_on, begins_begin, wider_not_taken}
-use Rattle.token_readers.proofs.Sets.{Follow, May, Within, within, past, may_past, plain, among_append}
-use Rattle.token_readers.proofs.Spells.{Spell, Nothing, On, on_passes, positive, spell_not_taken}
+use Rattle.token_readers.proofs.Sets.{Follow, May, Within, past, may_past, plain, among_append}
+use Rattle.token_readers.proofs.Spells.{Spell, On, on_passes, positive, spell_not_taken}
 use Rattle.token_readers.proofs.Good.{Good, Part, Laws, good_of, part_of, part_on}
 
 -- at fewer levels

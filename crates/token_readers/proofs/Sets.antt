@@ -1,10 +1,10 @@
 -- Sets of symbols, as lists: what can be told of them by computing.
-use Rattle.std.proofs.Common.{◌≡◌, ◌==◌, ℕ, zero, suc, Bool, true, false, not, ◌||◌, ◌&&◌, cond, List, [], ◌∷◌, ◌++◌, Option, Some, None, refl, sym, ap, subst, ◌∙◌, arith}
+use Rattle.std.proofs.Common.{◌≡◌, ◌==◌, ℕ, Bool, true, false, not, ◌||◌, ◌&&◌, List, [], ◌∷◌, ◌++◌, Option, Some, None, refl, sym, ap, ◌∙◌, arith}
 use Rattle.std.proofs.lemmas.Bool.Decides.{nat_tests}
 use Rattle.js_syntax.specs.declared.token.Token.{Token}
 use Rattle.js_syntax.specs.declared.symbol.Symbol.{Symbol}
 use Rattle.js_syntax.specs.declared.symbol.Symbol.TheVariants as s
-use Rattle.js_syntax.specs.Symbols.{Tokens, next, is, among, sees, stops, symbol_of, number}
+use Rattle.js_syntax.specs.Symbols.{Tokens, next, is, among, sees, symbol_of, number}
 
 -- the same test on a symbol's number
 abbrev pub amid : List Symbol → ℕ → Bool

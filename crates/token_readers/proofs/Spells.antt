@@ -1,13 +1,11 @@
 -- What the steps of readers spell, and that they read it.
-use Rattle.std.proofs.Common.{◌≡◌, ℕ, zero, suc, ◌+◌, ◌<◌, ◌≤◌, Bool, true, false, not, ◌&&◌, cond, List, [], ◌∷◌, ◌++◌, length, Option, Some, None, Result, Ok, Err, refl, sym, ap, subst, ◌∙◌, append_assoc, arith, ◌⊎◌, inl, inr}
-use Rattle.std.proofs.lemmas.List.{append-nil}
+use Rattle.std.proofs.Common.{◌≡◌, ℕ, zero, suc, ◌≤◌, Bool, true, false, cond, [], ◌∷◌, length, Option, Some, None, Ok, Err, refl, ap, subst, ◌∙◌, arith}
 use Rattle.js_syntax.specs.declared.token.Token.{Token}
-use Rattle.js_syntax.specs.declared.symbol.Symbol.{Symbol}
 use Rattle.js_syntax.specs.declared.parse_fault.ParseKind.{ParseKind}
 use Rattle.js_syntax.specs.declared.parse_fault.ParseKind.TheVariants.{Unexpected, TooDeep}
-use Rattle.js_syntax.specs.Symbols.{Tokens, next, is, sees, stops}
-use Rattle.js_syntax.specs.Spelling.{Spelling, Both, both, Each, none, one, Links, no_more, link}
-use Rattle.token_readers.specs.Readers.{Outcome, Reader, and_then, ◌>>=◌, pure, refuse, look, on, expect, rounds, repeat, deny, chain, begin, not_taken}
+use Rattle.js_syntax.specs.Symbols.{Tokens, next, sees, stops}
+use Rattle.js_syntax.specs.Spelling.{Spelling, Both, both, Links, no_more, link}
+use Rattle.token_readers.specs.Readers.{Outcome, Reader, and_then, ◌>>=◌, pure, refuse, look, on, rounds, repeat, deny, chain, begin, not_taken}
 use Rattle.token_readers.proofs.Begin.{Takes, takes_less}
 use Rattle.token_readers.proofs.Loops.{denies, deny_passes, chain_ends}
 

@@ -1,9 +1,8 @@
 -- One reader after another, where only some values of the first let the second be completed.
-use Rattle.std.proofs.Common.{◌≡◌, ℕ, zero, suc, ◌+◌, ◌<◌, ◌≤◌, Bool, true, false, cond, List, [], ◌∷◌, ◌++◌, length, Option, Some, None, Result, Ok, Err, refl, sym, ap, subst, ◌∙◌, append_assoc, arith}
-use Rattle.js_syntax.specs.declared.token.Token.{Token}
+use Rattle.std.proofs.Common.{◌≡◌, [], ◌∷◌, ◌++◌, Ok, Err, refl, sym, ap, ◌∙◌, append_assoc}
 use Rattle.js_syntax.specs.Symbols.{Tokens, next}
-use Rattle.token_readers.specs.Readers.{Outcome, Reader, and_then, ◌>>=◌, pure}
-use Rattle.token_readers.proofs.Laws.{Law, Sane, Opens, Passed, Refused, Completes, Completable, completable_of, next_alike, no_end_append, first_again, second_split}
+use Rattle.token_readers.specs.Readers.{Outcome, Reader, and_then, ◌>>=◌}
+use Rattle.token_readers.proofs.Laws.{Law, Sane, Opens, Passed, Completes, Completable, completable_of, next_alike, no_end_append, first_again, second_split}
 
 -- what is read is such
 pub record Yields {A : Type 0} (P : A → Type 0) (r : Reader A) : Type 0 where

@@ -1,5 +1,5 @@
 -- What a reader answers, and the steps that each is made of.
-use Rattle.std.specs.Prelude.{◌≡◌, ℕ, zero, suc, Bool, true, false, cond, List, [], ◌∷◌, ◌++◌, Option, Some, None, Result, Ok, Err, length}
+use Rattle.std.specs.Prelude.{ℕ, zero, suc, Bool, cond, [], ◌∷◌, Option, Some, None, Result, Ok, Err, length}
 use Rattle.js_syntax.specs.declared.token.Token.{Token}
 use Rattle.js_syntax.specs.declared.symbol.Symbol.{Symbol}
 use Rattle.js_syntax.specs.declared.parse_fault.ParseKind.{ParseKind}
