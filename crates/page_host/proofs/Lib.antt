@@ -7,7 +7,6 @@ pub mod ScriptLists
 pub mod Reading
 pub mod Begun
 pub mod Prepared
-pub mod Parts
 pub mod Stages
 pub mod Adding
 pub mod Playing

@@ -25,7 +25,7 @@ use Rattle.solo_model.specs.Truth.{IsGenuine}
 use Rattle.solo_model.specs.View.{at_start, view_of}
 use Rattle.solo_model.proofs.Journals.{AreApart, solo-acts}
 use Rattle.solo_model.proofs.Solos.{leads-solo}
-use Rattle.small_scripts.specs.Spelling.{Spells}
+use Rattle.script_meaning.specs.Entries.{Spells}
 use Rattle.small_scripts.specs.Trees.{body_of}
 use Rattle.small_meaning.specs.Rows.{Fresh, Reads, beginning as small_beginning, enters as small_enters}
 use Rattle.small_meaning.specs.Shows.{AreFit, FitsEntry, MayRun, entries_in}

@@ -3,8 +3,8 @@ use Rattle.std.specs.Prelude.{◌≡◌, ◌⊎◌, ℕ, List, [], ◌∷◌, �
 use Rattle.std.specs.Fmt.{decimal}
 use Rattle.page_host.specs.declared.faults.HostFault.{HostFault}
 use Rattle.page_host.specs.declared.faults.HostFault.TheVariants.{Usage, PageRefused, ReadFault, WriteFault, NoMemory, TooManyScripts, NotYet}
-use Rattle.page_host.specs.declared.faults.PageKind.{PageKind}
-use Rattle.page_host.specs.declared.faults.PageKind.TheVariants.{Missing, NotUtf8, TooLong, Unclosed, BadTag, WrongEnd, TooDeep}
+use Rattle.page_text.specs.declared.faults.PageKind.{PageKind}
+use Rattle.page_text.specs.declared.faults.PageKind.TheVariants.{Missing, NotUtf8, TooLong, Unclosed, BadTag, WrongEnd, TooDeep}
 
 -- the status of each fault
 abbrev pub status_of : HostFault → ℕ

@@ -5,7 +5,6 @@ pub mod Names
 pub mod Scripts
 pub mod Steps
 pub mod Printed
-pub mod Parts
 pub mod Report
 pub mod Run
 pub mod Prepared

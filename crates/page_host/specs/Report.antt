@@ -1,4 +1,4 @@
--- The report's bytes, in the form of this project's own, as far as they can come: userscripts that start, log, throw and are stopped.
+-- The report's bytes, in the form of this project's own, as far as they can come: scripts that start, log, throw, are stopped, and are no scripts.
 use Rattle.std.specs.Prelude.{◌+◌, ◌-◌, ℕ, List, [], ◌∷◌, ◌++◌, codes, nat_eq, nat_le, slice_get, if◌then◌else◌, encode_utf8_all, Option, Some, None}
 use Rattle.std.specs.List.{flat_map}
 use Rattle.std.specs.Fmt.{decimal}
@@ -12,7 +12,7 @@ use Rattle.door.specs.declared.requests.Request.TheVariants.{Native}
 use Rattle.door.specs.declared.marks.StopKind.{StopKind}
 use Rattle.door.specs.declared.marks.StopKind.TheVariants.{Fuel, Levels, Cells}
 use Rattle.door.specs.declared.marks.Outcome.{Outcome}
-use Rattle.door.specs.declared.marks.Outcome.TheVariants.{Throw, Stop}
+use Rattle.door.specs.declared.marks.Outcome.TheVariants.{Done, Throw, Stop, Syntax}
 use Rattle.door.specs.declared.marks.Mark.{Mark}
 use Rattle.door.specs.declared.marks.Mark.TheVariants.{Turn, Ask, Leave}
 
@@ -53,11 +53,16 @@ stop_name Fuel = codes "fuel"
 stop_name Levels = codes "levels"
 stop_name Cells = codes "cells"
 
--- the line of the end of an entry, where nothing caught a throw or a limit stopped it
+-- a fault of a script's text: its place and its name
+abbrev pub fault_text : ℕ → List ℕ → List ℕ
+fault_text at name = decimal at ++ (32 ∷ encode_utf8_all name)
+
+-- the line of the end of an entry, where nothing caught a throw, a limit stopped it, or its text has a fault
 abbrev pub outcome_line : Option (List ℕ) → Outcome → List ℕ
 outcome_line who (Throw text) = told_line (codes "throw") who (encode_utf8_all text)
 outcome_line who (Stop stop) = told_line (codes "stop") who (stop_name stop)
-outcome_line who outcome = []
+outcome_line who (Syntax at name) = told_line (codes "syntax") who (fault_text at name)
+outcome_line who Done = []
 
 -- the line of a mark, where it has one
 abbrev pub mark_line : List (List ℕ) → Mark → List ℕ

@@ -5,33 +5,8 @@ ghost use Rattle.std.specs.Prelude.{◌≡◌, IfOk};
 ghost use Rattle.std.specs.String.{string_bytes};
 
 use base_text::{Mem, NoMemory};
+use page_text::{PageFault, PageKind};
 use std::alloc::{AllocError, Global};
-
-/// What is wrong with a page.
-#[derive(Clone, Copy, Debug, PartialEq, Eq)]
-pub enum PageKind {
-    /// There is no `page.html`.
-    Missing,
-    /// The bytes aren't UTF-8.
-    NotUtf8,
-    /// The page or a part of it is too long.
-    TooLong,
-    /// A tag, a comment or an element isn't closed.
-    Unclosed,
-    /// A tag or a text stands where none may.
-    BadTag,
-    /// An end tag doesn't end the innermost open element.
-    WrongEnd,
-    /// A node is too far below the document.
-    TooDeep,
-}
-
-/// Why a page is refused, and the byte of `page.html` at which it is.
-#[derive(Clone, Copy, Debug, PartialEq, Eq)]
-pub struct PageFault {
-    pub at: u32,
-    pub kind: PageKind,
-}
 
 /// Why a run ends without its report.
 #[derive(Clone, Copy, Debug, PartialEq, Eq)]
@@ -79,19 +54,18 @@ impl HostFault {
     }
 }
 
-impl PageKind {
-    fn name(self) -> &'static str
-        ensures { result.now ≡ kind_name self }
-    {
-        match self {
-            PageKind::Missing => "Missing",
-            PageKind::NotUtf8 => "NotUtf8",
-            PageKind::TooLong => "TooLong",
-            PageKind::Unclosed => "Unclosed",
-            PageKind::BadTag => "BadTag",
-            PageKind::WrongEnd => "WrongEnd",
-            PageKind::TooDeep => "TooDeep",
-        }
+/// The word for what is wrong with a page.
+fn kind_name(kind: PageKind) -> &'static str
+    ensures { result.now ≡ kind_name kind }
+{
+    match kind {
+        PageKind::Missing => "Missing",
+        PageKind::NotUtf8 => "NotUtf8",
+        PageKind::TooLong => "TooLong",
+        PageKind::Unclosed => "Unclosed",
+        PageKind::BadTag => "BadTag",
+        PageKind::WrongEnd => "WrongEnd",
+        PageKind::TooDeep => "TooDeep",
     }
 }
 
@@ -99,7 +73,7 @@ fn page_line(alloc: Global, fault: PageFault) -> Result<String, AllocError>
     ensures { IfOk result (λ line. string_bytes line ≡ line_of (HostFault.PageRefused fault)) }
 {
     let at = fault.at;
-    let kind = fault.kind.name();
+    let kind = kind_name(fault.kind);
     format!(in alloc; "page refused at {at}: {kind}")
 }
 

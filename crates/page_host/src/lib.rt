@@ -7,14 +7,14 @@ mod host;
 mod names;
 mod play;
 mod prepare;
-mod print;
 mod reads;
 mod report_text;
 mod scripts;
 mod words;
 
-pub use faults::{HostFault, PageFault, PageKind, fault_line};
+pub use faults::{HostFault, fault_line};
 pub use host::{Ended, host_run};
+pub use page_text::{PageFault, PageKind};
 
 #[cfg(test)]
 mod play_tests;

@@ -16,16 +16,20 @@ use crate::address::is_plain_address;
 use crate::faults::HostFault;
 use crate::names::{SCRIPT_LIMIT, has_events, script_names, told_count};
 use crate::play::play;
-use crate::print::print;
 use crate::reads::{names_in, page_bytes};
 use crate::report_text::report;
 use crate::scripts::scripts_in;
 use crate::words::{Command, read_words};
 use base_text::Mem;
+use dom_tree::NodeId;
 use door::Journal;
 use outside::Folder;
+use page_text::print;
 use small_forms::{Page, Userscript, page_in};
 use std::alloc::Global;
+
+/// The document is the first node of its tree.
+const DOCUMENT: NodeId = NodeId(0);
 
 /// What a run makes before it writes: its journal and the report's bytes.
 #[derive(Drop)]
@@ -153,7 +157,7 @@ fn make(alloc: Global, address: &str, found: &Found) -> Mem<Made>
     ensures { IfOk result (λ made. IsMade address.now found.now made) }
 {
     let played = play(alloc, &found.page, found.scripts.as_slice())?;
-    let document = print(alloc, &played.tree)?;
+    let document = print(alloc, &played.tree, DOCUMENT)?;
     let report = report(
         alloc,
         address,

@@ -7,8 +7,9 @@ ghost use Rattle.std.specs.Prelude.{◌≡◌, ◌⊎◌, ◌≤◌, None, Some,
 ghost use Rattle.std.specs.Option.{option_map};
 ghost use Rattle.std.specs.String.{string_bytes};
 
-use crate::faults::{HostFault, PageFault, PageKind};
+use crate::faults::HostFault;
 use outside::{Folder, Lost};
+use page_text::{PageFault, PageKind};
 
 /// The names of the folder's files.
 pub fn names_in<F: Folder>(folder: &mut F) -> Result<Vec<String>, HostFault>

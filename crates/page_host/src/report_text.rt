@@ -1,14 +1,15 @@
 //! The bytes of the report.
 
-ghost use Rattle.page_host.specs.Report.{escaped, escaped_byte, logged_line, mark_line, outcome_line, report_head, report_of, report_tail, request_line, script_line, stop_name, told_line, turns_in, who_of};
-ghost use Rattle.std.specs.Prelude.{◌≡◌, ◌++◌, IfOk, OnOk, map};
+ghost use Rattle.page_host.specs.Report.{escaped, escaped_byte, fault_text, logged_line, mark_line, outcome_line, report_head, report_of, report_tail, request_line, script_line, stop_name, told_line, turns_in, who_of};
+ghost use Rattle.std.specs.Prelude.{◌≡◌, ◌∷◌, ◌++◌, codes, IfOk, OnOk, map};
+ghost use Rattle.std.specs.Fmt.{decimal};
 ghost use Rattle.std.specs.List.{flat_map};
 ghost use Rattle.std.specs.Option.{option_copied};
 ghost use Rattle.std.specs.String.{string_bytes};
 
-use base_text::Mem;
+use base_text::{Mem, Text};
 use door::{Actor, Journal, Mark, Member, Outcome, Request, StopKind, Value, Values};
-use std::alloc::Global;
+use std::alloc::{AllocError, Global};
 
 /// The report of a run at this address, whose userscripts are these files, and whose document is printed so.
 pub fn report(
@@ -22,7 +23,7 @@ pub fn report(
 {
     let mut out = Vec::new(alloc);
     push_head(&mut out, address, files)?;
-    push_log(&mut out, files, journal)?;
+    push_log(alloc, &mut out, files, journal)?;
     push_tail(alloc, &mut out, document, turns_in(journal))?;
     Ok(out)
 }
@@ -143,33 +144,50 @@ fn stop_name(stop: StopKind) -> &'static str
     }
 }
 
-fn push_outcome(out: &mut Vec<u8>, who: Option<&str>, outcome: &Outcome) -> Mem<()>
+/// A fault of a script's text: its place and its name.
+fn fault_text(alloc: Global, at: u32, name: &str) -> Result<String, AllocError>
+    ensures { IfOk result (λ text. string_bytes text ≡ decimal at ++ 32 ∷ name.now) }
+{
+    format!(in alloc; "{at} {name}")
+}
+
+fn push_syntax(alloc: Global, out: &mut Vec<u8>, who: Option<&str>, at: u32, name: &Text) -> Mem<()>
+    ensures { OnOk result (out.new.items ≡ out.old.items ++ told_line (codes "syntax") (option_copied who.entry) (fault_text at name.now)) }
+{
+    let text = fault_text(alloc, at, name.as_str())?;
+    push_told(out, "syntax", who, text.as_str())
+}
+
+fn push_outcome(alloc: Global, out: &mut Vec<u8>, who: Option<&str>, outcome: &Outcome) -> Mem<()>
     ensures { OnOk result (out.new.items ≡ out.old.items ++ outcome_line (option_copied who.entry) outcome.now) }
 {
     match outcome {
         Outcome::Throw(text) => push_told(out, "throw", who, text.as_str()),
         Outcome::Stop(stop) => push_told(out, "stop", who, stop_name(*stop)),
-        _ => Ok(()),
+        Outcome::Syntax(at, name) => push_syntax(alloc, out, who, *at, name),
+        Outcome::Done => Ok(()),
     }
 }
 
 /// The line of a mark, where it has one.
-fn push_line(out: &mut Vec<u8>, files: &[String], mark: &Mark) -> Mem<()>
+fn push_line(alloc: Global, out: &mut Vec<u8>, files: &[String], mark: &Mark) -> Mem<()>
     ensures { OnOk result (out.new.items ≡ out.old.items ++ mark_line (map string_bytes files.now) mark.now) }
 {
     match mark {
         Mark::Ask(actor, request, _) => push_request(out, who_of(files, *actor), request),
-        Mark::Leave(actor, outcome, _) => push_outcome(out, who_of(files, *actor), outcome),
+        Mark::Leave(actor, outcome, _) => {
+            push_outcome(alloc, out, who_of(files, *actor), outcome)
+        }
         _ => Ok(()),
     }
 }
 
 /// The lines of the log.
-fn push_log(out: &mut Vec<u8>, files: &[String], journal: &Journal) -> Mem<()>
+fn push_log(alloc: Global, out: &mut Vec<u8>, files: &[String], journal: &Journal) -> Mem<()>
     ensures { OnOk result (out.new.items ≡ out.old.items ++ flat_map (mark_line (map string_bytes files.now)) journal.now.marks) }
 {
     for mark in journal.marks() {
-        push_line(out, files, mark)?;
+        push_line(alloc, out, files, mark)?;
     }
     Ok(())
 }

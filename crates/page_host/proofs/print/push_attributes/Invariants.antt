@@ -1,8 +1,0 @@
-use Rattle.std.proofs.Common.{◌≡◌, ◌++◌, take}
-use Rattle.std.specs.List.{flat_map}
-use Rattle.door.specs.Forest.{attributes_of}
-use Rattle.page_host.specs.Printed.{shown_attribute}
-use Rattle.page_host.proofs.print.push_attributes.Given as goal
-
-abbrev pub invariant-loop-i : goal.invariant-loop-i
-invariant-loop-i l = l.out.items ≡ l.fn.out.items ++ flat_map shown_attribute (take l.i (attributes_of l.tree l.node))
