@@ -48,3 +48,11 @@ pub record Builtins : Type 0 where
   -- console.log(new RangeError("r").toString()); throw new Error();
   pub errors : Does 20 10 (say (call (member (ex.New (name (codes "RangeError")) (ex.Str (codes "r") ∷ [])) (codes "toString")) []) ∷ st.Throw (ex.New (name (codes "Error")) []) ∷ [])
       (codes "RangeError: r" ∷ []) (Throw (codes "Error: ")) 15
+  -- Object.defineProperty([], 1, {value: 7});
+  pub sparse : Does 20 10 (do_ (call (member (name (codes "Object")) (codes "defineProperty")) (ex.Array [] ∷ n 1 ∷ ex.Object (property.Value (codes "value") (n 7) ∷ []) ∷ [])) ∷ [])
+      [] (Throw (codes "RangeError: out of range")) 8
+  -- Object.defineProperty([1], "length", {value: 5});
+  pub longer : Does 20 10 (do_ (call (member (name (codes "Object")) (codes "defineProperty")) (ex.Array (n 1 ∷ []) ∷ ex.Str (codes "length") ∷ ex.Object (property.Value (codes "value") (n 5) ∷ []) ∷ [])) ∷ [])
+      [] (Throw (codes "RangeError: out of range")) 9
+  -- var a = [1, 2, 3]; a.unshift();
+  pub unmoved : Does 20 10 (var_ (codes "a") (ex.Array (n 1 ∷ n 2 ∷ n 3 ∷ [])) ∷ do_ (call (member (name (codes "a")) (codes "unshift")) []) ∷ []) [] Done 9

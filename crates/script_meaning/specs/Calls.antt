@@ -1,7 +1,7 @@
 -- Calls and constructions (ECMAScript, 13.3.6, 13.3.5 and 10.2). Who calls has taken a level; what isn't a function is found out then.
 use Rattle.std.specs.Prelude.{ℕ, List, [], Option, Some, None, codes}
 use Rattle.script_meaning.specs.Places.{OBJECT_PROTOTYPE}
-use Rattle.script_meaning.specs.Machine.{Machine, Cell, Form, Plain, Closure, Native, Value, Primitive, Refers, Reference, Own, cell_at}
+use Rattle.script_meaning.specs.Machine.{Machine, Cell, Form, Plain, Closure, Native, Value, Primitive, Refers, Reference, Own, undefined, cell_at}
 use Rattle.script_meaning.specs.Faults.{not_a_function, wrong_kind}
 use Rattle.script_meaning.specs.Evaluator.{Gives, Meaning, Evaluator, bind, choose, made, fails_by}
 use Rattle.script_meaning.specs.Members.{get_row}
@@ -45,7 +45,7 @@ new_closure_row ev callee arguments m f c =
 abbrev pub constructed_form : Evaluator → Option Form → Value → List Value → Meaning
 constructed_form ev (Some (Closure code scope)) callee arguments m f c = new_closure_row ev callee arguments m f c
 constructed_form ev (Some (Native builtin)) callee arguments m f c =
-    choose (makes_objects builtin) (λ m f. called_row ev callee callee arguments m f c) (fails_by wrong_kind c) m f
+    choose (makes_objects builtin) (λ m f. called_row ev callee undefined arguments m f c) (fails_by wrong_kind c) m f
 constructed_form ev form callee arguments m f c = fails_by not_a_function c m f
 
 -- `new`: a built-in that makes objects is only called (7.3.15)

@@ -17,7 +17,7 @@ use Rattle.js_syntax.specs.TokenFaults.{IsFault}
 use Rattle.js_syntax.specs.Scripts.{IsScript, IsFirstFault, CHAIN_LIMIT, LEVEL_LIMIT}
 use Rattle.script_meaning.specs.Machine.{Machine, Refers, Own}
 use Rattle.script_meaning.specs.Solo.{Tree, Tells, Fails, Point, Awaits, Leaves, Entering}
-use Rattle.script_meaning.specs.Evaluator.{Meaning, Evaluator, bind}
+use Rattle.script_meaning.specs.Evaluator.{Meaning, bind}
 use Rattle.script_meaning.specs.Requests.{met_row}
 use Rattle.script_meaning.specs.Intrinsics.{Setup, fresh}
 use Rattle.script_meaning.specs.Meaning.{with_level, leave, script_entry, timer_entry}
@@ -66,13 +66,13 @@ abbrev pub Refuses : List ℕ → (levels : ℕ) → Machine → (Machine → An
 Refuses text levels m back tree =
     (at : ℕ) × (name : List ℕ) × (HasNoTokens text at name ⊎ HasNoScript text at name) × (tree ≡ Tells (Leaves (Syntax at name) 0) levels m back)
 
--- a listener is called on the current target with the event; both are met by then
-abbrev pub listener_row : Evaluator → ℕ → Thing → Thing → Meaning
-listener_row ev place event current m f c =
-    met_row event m f (bind (λ event m f. met_row current m f (bind (λ target m f. ev.call (Refers (Own place)) target (event ∷ []) m f c) c)) c)
+-- a listener is called on the current target with the event; both are met first, also where no level is left for the entry
+abbrev pub listener_row : (levels : ℕ) → ℕ → Thing → Thing → Meaning
+listener_row levels place event current m f c =
+    met_row event m f (bind (λ event m f. met_row current m f (bind (λ target m f. with_level levels (λ ev. ev.call (Refers (Own place)) target (event ∷ [])) m f c) c)) c)
 
 abbrev pub listener_entry : (fuel levels : ℕ) → (place : ℕ) → Thing → Thing → Machine → (Machine → Answer → Tree Machine) → Tree Machine
-listener_entry fuel levels place event current m back = with_level levels (λ ev. listener_row ev place event current) m fuel (leave fuel levels back)
+listener_entry fuel levels place event current m back = listener_row levels place event current m fuel (leave fuel levels back)
 
 -- how each entry goes on; serving others isn't built yet
 abbrev pub enters : Entering Machine

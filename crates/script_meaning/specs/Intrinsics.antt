@@ -157,10 +157,10 @@ abbrev pub errors : List Intrinsic
 errors =
     global (codes "Error") b.ErrorFunction
     ∷ prototype_for 46 plain
+    ∷ function 47 (codes "toString") b.ErrorToString
     ∷ error_kind (codes "TypeError") b.TypeErrorFunction
     ∷ error_kind (codes "RangeError") b.RangeErrorFunction
     ∷ error_kind (codes "ReferenceError") b.ReferenceErrorFunction
-    ∷ function 47 (codes "toString") b.ErrorToString
     ∷ []
 
 -- from place 52: what logs, and the address (Console Standard; HTML, Location; Greasemonkey manual)

@@ -164,10 +164,14 @@ pop_row this m f c = array_of this (λ elements m f. elements_row this 0 (take (
 abbrev pub shift_row : Value → Meaning
 shift_row this m f c = array_of this (λ elements m f. elements_row this (length elements - 1) (drop 1 elements) (argument elements 0) m f c) c m f
 
--- unshift(items) moves all, and copies the items (23.1.3.37)
+-- unshift(items) moves all, and copies the items; with none it moves nothing (23.1.3.37)
+abbrev pub unshift_units : List Value → List Value → ℕ
+unshift_units [] elements = 0
+unshift_units items elements = length items + length elements
+
 abbrev pub unshift_row : Value → List Value → Meaning
 unshift_row this items m f c = array_of this (λ elements m f.
-    elements_row this (length items + length elements) (items ++ elements) (count (length items + length elements)) m f c) c m f
+    elements_row this (unshift_units items elements) (items ++ elements) (count (length items + length elements)) m f c) c m f
 
 -- reverse() moves all, and answers the array (23.1.3.26)
 abbrev pub reverse_row : Value → Meaning

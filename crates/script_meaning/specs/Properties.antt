@@ -100,19 +100,25 @@ element_written cell elements place value =
     if nat_lt place (length elements) then Ok (with_elements cell (slice_set elements place value))
     else (if place == length elements then Ok (with_elements cell (elements ++ value ∷ [])) else Err Range)
 
--- an element has no other form than writable and enumerable
+-- an element has no other form than writable and enumerable; the place is looked at first
 abbrev pub element_defined : Cell → List Value → ℕ → Property → Result Cell ErrorKind
 element_defined cell elements place (Datum value true true) = element_written cell elements place value
-element_defined cell elements place property = Err Kind
+element_defined cell elements place property = if nat_le place (length elements) then Err Kind else Err Range
 
 -- a smaller length cuts; there is none greater, and none below 0
 abbrev pub length_written : Cell → List Value → ℤ → Result Cell ErrorKind
 length_written cell elements (pos n) = if nat_le n (length elements) then Ok (with_elements cell (take n elements)) else Err Range
 length_written cell elements (negsuc n) = Err Range
 
+-- another change of the length than a write: the number is looked at first
+abbrev pub length_kept : Result Cell ErrorKind → Result Cell ErrorKind
+length_kept (Ok cut) = Err Kind
+length_kept (Err kind) = Err kind
+
 -- the length is written by a number, and changed in no other way
 abbrev pub length_defined : Cell → List Value → Property → Result Cell ErrorKind
 length_defined cell elements (Datum (Primitive (NumberPrim z)) true false) = length_written cell elements z
+length_defined cell elements (Datum (Primitive (NumberPrim z)) writable enumerable) = length_kept (length_written cell elements z)
 length_defined cell elements property = Err Kind
 
 abbrev pub slot_defined : Cell → List ℕ → Property → Cell

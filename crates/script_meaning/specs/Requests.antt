@@ -62,16 +62,20 @@ is_kind a b = false
 abbrev pub misfit : Rest
 misfit m f = Fails
 
+-- a thing of this kind is met, and so much room stays
 abbrev pub met_within : ℕ → ThingKind → Meaning
-met_within zero kind m f c = c (Halts Cells) m f
-met_within (suc room) kind m f c =
+met_within room kind m f c =
     c (Gives (Refers (Thing (length m.things)))) (record m { things = m.things ++ record { kind = kind; slots = [] } ∷ []; room = room }) f
 
--- a thing that is answered: one that was met, by its place in the order of meeting, or the next one, which is met now
+-- a new thing is met, where it's the next one
+abbrev pub met_next : ℕ → DoorThing → Meaning
+met_next zero thing m f c = c (Halts Cells) m f
+met_next (suc room) thing m f c = choose (thing.number == length m.things) (λ m f. met_within room thing.kind m f c) misfit m f
+
+-- A thing that is answered: one that was met, by its place in the order of meeting, or the next one, which is met now. Where no room is
+-- left it isn't met, and from then on no other one: room never grows.
 abbrev pub met_row : DoorThing → Meaning
-met_row thing m f c =
-    choose (nat_lt thing.number (length m.things)) (c (Gives (Refers (Thing thing.number))))
-    (choose (thing.number == length m.things) (λ m f. met_within m.room thing.kind m f c) misfit) m f
+met_row thing m f c = choose (nat_lt thing.number (length m.things)) (c (Gives (Refers (Thing thing.number)))) (λ m f. met_next m.room thing m f c) m f
 
 abbrev pub answered_row : Expected → Answer → Meaning
 answered_row expected (ThrowAnswer reason) m f c = fails_by (refusal_fault reason) c m f

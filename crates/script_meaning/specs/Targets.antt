@@ -13,7 +13,7 @@ pub data Target : Type 0 where
   ToName : List ℕ → Target
   ToMember : (base : Value) (key : List ℕ) → Target
 
--- the base is evaluated, then the key, which is made a key at once (ECMAScript, 13.3.2); the grammar has no other targets
+-- the base is evaluated, then the key (ECMAScript, 13.3.2), which is made a key at once (own); the grammar has no other targets
 abbrev pub target_row : Evaluator → ExprForm → Context → With Target → Meaning
 target_row ev (o.Name name) here k m f c = k (ToName name) m f
 target_row ev (o.Member e key) here k m f c = ev.expr e here m f (bind (λ base. k (ToMember base key)) c)

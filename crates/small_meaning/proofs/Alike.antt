@@ -5,7 +5,7 @@ use Rattle.door.specs.declared.requests.Request.{Request}
 use Rattle.door.specs.declared.requests.Answer.{Answer}
 use Rattle.door.specs.declared.requests.ErrorKind.{ErrorKind}
 use Rattle.door.specs.declared.marks.StopKind.{StopKind}
-use Rattle.script_meaning.specs.Evaluator.{Rest, With, error_cell, fails_by, made, made_within}
+use Rattle.script_meaning.specs.Evaluator.{error_cell, fails_by, made_within}
 use Rattle.script_meaning.specs.Evaluator as ev
 use Rattle.script_meaning.specs.Faults.{Fault, fitting}
 use Rattle.script_meaning.specs.Intrinsics.{Setup, fresh}

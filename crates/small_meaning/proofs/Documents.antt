@@ -17,7 +17,7 @@ use Rattle.door.specs.declared.requests.Answer.{Answer}
 use Rattle.door.specs.declared.requests.Answer.TheVariants.{Value as ValueAnswer, Throw as ThrowAnswer}
 use Rattle.script_meaning.specs.Builtin.{Builtin, Asks}
 use Rattle.script_meaning.specs.Calls.{called_form}
-use Rattle.script_meaning.specs.Evaluator.{Evaluator, Rest, With, choose, error_cell, fails_by, Gives}
+use Rattle.script_meaning.specs.Evaluator.{Evaluator, choose, error_cell, fails_by, Gives}
 use Rattle.script_meaning.specs.Evaluator as ev
 use Rattle.script_meaning.specs.Faults.{Fault, fitting, refusal_fault, text_too_long}
 use Rattle.script_meaning.specs.Intrinsics.{Setup, fresh}
@@ -27,7 +27,7 @@ use Rattle.script_meaning.specs.Members.{Stands, found, read_row}
 use Rattle.script_meaning.specs.Names.{bound_name_row, global_name_row, missing_throws, name_row}
 use Rattle.script_meaning.specs.Natives.{native_row}
 use Rattle.script_meaning.specs.Operations.{is_same_reference}
-use Rattle.script_meaning.specs.Requests.{OfKind, answered_row, door_thing, met_within, misfit, request_row, window_or}
+use Rattle.script_meaning.specs.Requests.{OfKind, answered_row, door_thing, met_next, met_within, misfit, request_row, window_or}
 use Rattle.script_meaning.specs.Solo.{Tree}
 use Rattle.small_meaning.specs.Errors.{error_text}
 use Rattle.small_meaning.specs.Rows.{Bare}
@@ -103,13 +103,14 @@ document_met : (setup : Setup) (k : ℕ) (least : Bool) (tree : Tree Bare) (d : 
     → Alike setup k tree (answered_row (OfKind Document) (ValueAnswer (door.Thing (thing_of Document 1))) m f d)
 document_met setup k least tree d m f b r h = by_met r.met refl
   where
-    met_first : (room : ℕ) → r.met ≡ false → suc k + 1 ≤ room → length m.things ≡ 1 → Alike setup k tree (met_within room Document m f d)
+    met_first : (room : ℕ) → r.met ≡ false → suc k + 1 ≤ room → length m.things ≡ 1 → Alike setup k tree (met_next room (thing_of Document 1) m f d)
     met_first zero e low long = absurd (omega (arith, low))
     met_first (suc room) e low long =
         let next : Machine = record m { things = m.things ++ met_document ∷ []; room = room } in
         let P : ℕ → Type 0 = λ n. Alike setup k tree (d (Gives (Refers (Thing n))) next f) in
+        let Q : ℕ → Type 0 = λ n. Alike setup k tree (choose (1 == n) (λ m f. met_within room Document m f d) misfit m f) in
         let none : met_things r.met ≡ [] = ap met_things e in
-        subst P (sym long) (h next (record {
+        subst Q (sym long) (subst P (sym long) (h next (record {
           zone = r.zone;
           more = r.more;
           cells = r.cells;
@@ -117,7 +118,7 @@ document_met setup k least tree d m f b r h = by_met r.met refl
           since = refl;
           things = ap (λ ts. ts ++ met_document ∷ []) r.things ∙ ap (λ ts. ((fresh setup).things ++ ts) ++ met_document ∷ []) none ∙ plain (fresh setup).things;
           room = omega (arith, low);
-        }))
+        })))
       where
         plain : (ts : List MetThing) → (ts ++ []) ++ met_document ∷ [] ≡ ts ++ met_document ∷ []
         plain [] = refl
@@ -126,11 +127,11 @@ document_met setup k least tree d m f b r h = by_met r.met refl
     by_met : (met : Bool) → r.met ≡ met → Alike setup k tree (answered_row (OfKind Document) (ValueAnswer (door.Thing (thing_of Document 1))) m f d)
     by_met true e =
         let long : length m.things ≡ 2 = count_met setup least (suc k) m b r ∙ ap (λ x. 1 + length (met_things x)) e in
-        let P : ℕ → Type 0 = λ n. Alike setup k tree (choose (nat_lt 1 n) (d (Gives (Refers (Thing 1)))) (choose (1 == n) (λ m f. met_within m.room Document m f d) misfit) m f) in
+        let P : ℕ → Type 0 = λ n. Alike setup k tree (choose (nat_lt 1 n) (d (Gives (Refers (Thing 1)))) (λ m f. met_next m.room (thing_of Document 1) m f d) m f) in
         subst P (sym long) (h m (record { zone = r.zone; more = r.more; cells = r.cells; met = r.met; since = e; things = r.things; room = r.room }))
     by_met false e =
         let long : length m.things ≡ 1 = count_met setup least (suc k) m b r ∙ ap (λ x. 1 + length (met_things x)) e in
-        let P : ℕ → Type 0 = λ n. Alike setup k tree (choose (nat_lt 1 n) (d (Gives (Refers (Thing 1)))) (choose (1 == n) (λ m f. met_within m.room Document m f d) misfit) m f) in
+        let P : ℕ → Type 0 = λ n. Alike setup k tree (choose (nat_lt 1 n) (d (Gives (Refers (Thing 1)))) (λ m f. met_next m.room (thing_of Document 1) m f d) m f) in
         let low : unmet r.met ≡ 1 = ap unmet e in
         subst P (sym long) (met_first m.room e (omega (arith, low, r.room)) long)
 

@@ -9,7 +9,7 @@ use Rattle.script_meaning.specs.Intrinsics.{Setup, fresh}
 use Rattle.script_meaning.specs.Machine.{Machine}
 use Rattle.script_meaning.specs.Meaning.{script_entry}
 use Rattle.script_meaning.specs.Solo.{Tree, Asks, Tells, Fails, Does, Entering}
-use Rattle.small_meaning.specs.Rows.{Bare, Fresh, Reads}
+use Rattle.small_meaning.specs.Rows.{Bare, Fresh}
 use Rattle.small_meaning.specs.Rows as small
 use Rattle.script_meaning.specs.Entries.{LEVELS}
 use Rattle.solo_model.specs.Solo.{Show, Enters, Answers, Backs, Deed, IsSoloFrom}

@@ -11,7 +11,7 @@ use Rattle.door.specs.declared.requests.Request.TheVariants.{Native as NativeReq
 use Rattle.door.specs.declared.requests.Answer.{Answer}
 use Rattle.door.specs.declared.requests.Answer.TheVariants.{Value as ValueAnswer, Throw as ThrowAnswer}
 use Rattle.script_meaning.specs.Builtin.{Asks}
-use Rattle.script_meaning.specs.Evaluator.{Evaluator, Rest, With, choose, fails_by, Gives, Ends, unvalued, text_units}
+use Rattle.script_meaning.specs.Evaluator.{choose, fails_by, Gives, Ends, unvalued, text_units}
 use Rattle.script_meaning.specs.Evaluator as ev
 use Rattle.script_meaning.specs.Faults.{text_too_long}
 use Rattle.script_meaning.specs.Intrinsics.{Setup, fresh}

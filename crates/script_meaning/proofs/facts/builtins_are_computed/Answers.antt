@@ -31,4 +31,7 @@ returns c = record {
   scalars = refl;
   conversions = refl;
   errors = refl;
+  sparse = refl;
+  longer = refl;
+  unmoved = refl;
 }
