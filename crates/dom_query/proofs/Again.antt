@@ -1,6 +1,6 @@
 -- What is spelled so is read.
-use Rattle.std.proofs.Common.{◌≡◌, ◌+◌, ◌-◌, ◌⊎◌, ℕ, Bool, true, false, ◌==◌, cond, List, [], ◌∷◌, ◌++◌, length, take, drop, refl, ap, ap₂, sym, subst, ◌∙◌, arith, append_assoc}
-use Rattle.std.specs.Prelude.{Option, Some, None, Ok, Err, slice_range}
+use Rattle.std.proofs.Common.{◌≡◌, ◌+◌, ◌-◌, ℕ, Bool, true, false, ◌==◌, cond, List, [], ◌∷◌, ◌++◌, length, take, drop, refl, ap, ap₂, sym, subst, ◌∙◌, arith, append_assoc}
+use Rattle.std.specs.Prelude.{Option, Some, None, Ok, slice_range}
 use Rattle.std.proofs.lemmas.List.{append-nil, drop-drop, drop_at, take_at}
 use Rattle.std.proofs.lemmas.Bool.Decides.{nat_tests}
 use Rattle.dom_query.specs.declared.kind.Kind.{Kind}
@@ -14,12 +14,12 @@ use Rattle.dom_query.specs.declared.built.Built.{Built}
 use Rattle.dom_query.specs.declared.selector.Compound.{Compound}
 use Rattle.dom_query.specs.declared.selector.Part.{Part}
 use Rattle.dom_query.specs.declared.selector.Part.TheVariants.{Id, Class, Has, Is}
-use Rattle.dom_query.specs.declared.selector.TagTest.TheVariants.{Any, Named}
+use Rattle.dom_query.specs.declared.selector.TagTest.TheVariants.{Any}
 use Rattle.dom_query.specs.Names.{Scalars, NotNext, is_blank, is_name_scalar}
 use Rattle.dom_query.specs.Grammar as g
 use Rattle.dom_query.specs.Grammar.{Blanks, Name, UpToQuote, Value, IsPart, AreParts, IsCompound, IsChain, IsSelector, compound_of}
 use Rattle.dom_query.specs.Answers.{Chains}
-use Rattle.dom_query.specs.Reading.{Outcome, kind_of, span, next, build, finish, run, go_on, or_stuck, begin_part, begin_compound, after_part, if_name, if_close, next_before, next_gap, next_name, next_attribute, next_equals, next_quoted, next_bare, with_part, with_name, with_any, end_compound, end_chain, end_at, end_gap, end_name, end_part, word_at}
+use Rattle.dom_query.specs.Reading.{Outcome, kind_of, span, next, build, finish, run, go_on, after_part, if_name, next_before, next_gap, next_name, next_attribute, next_equals, next_bare, with_part, with_name, with_any, end_compound, end_chain, end_at, end_gap, end_name, word_at}
 use Rattle.dom_query.proofs.KindFacts.{is_name_kind, name_kind, plain_kind, blank_kind}
 
 -- from one state to another over what stands before the rest

@@ -1,10 +1,9 @@
 -- The fault that is read is the first.
-use Rattle.std.proofs.Common.{◌≡◌, ◌≢◌, ◌+◌, ◌-◌, ◌<◌, ◌≤◌, ◌⊎◌, ℕ, Bool, true, false, ◌==◌, cond, List, [], ◌∷◌, ◌++◌, length, take, drop, get_or, refl, ap, sym, subst, ◌∙◌, arith, append_assoc, length-append, inl, inr}
+use Rattle.std.proofs.Common.{◌≡◌, ◌+◌, ◌-◌, ◌<◌, ◌≤◌, ℕ, Bool, true, false, ◌==◌, cond, [], ◌∷◌, ◌++◌, length, take, drop, get_or, refl, ap, sym, subst, ◌∙◌, arith, append_assoc, length-append}
 use Rattle.std.specs.Prelude.{Option, Some, None, Ok, Err, IfOk}
 use Rattle.std.proofs.lemmas.List.{take_at, take-append-drop, take-take, drop_more, at_drop_all, length-drop}
 use Rattle.std.proofs.lemmas.Bool.Decides.{nat_tests}
-use Rattle.base_text.specs.declared.memory.OrMemory.TheVariants as memory
-use Rattle.dom_query.specs.declared.fault.SelectorFault.TheVariants.{BadSelector}
+use Rattle.dom_query.specs.declared.fault.SelectorFault.TheVariants.{BadSelector, NoMemory}
 use Rattle.dom_query.specs.declared.state.State.{State}
 use Rattle.dom_query.specs.declared.state.State.TheVariants as s
 use Rattle.dom_query.specs.declared.built.Built.{Built}
@@ -12,7 +11,7 @@ use Rattle.dom_query.specs.Names.{Scalars}
 use Rattle.dom_query.specs.Grammar.{IsSelector}
 use Rattle.dom_query.specs.Faults.{IsFront, IsFault}
 use Rattle.dom_query.specs.Answers.{Chains, Answer, OkOrMemory, IfFault, FaultOrMemory}
-use Rattle.dom_query.specs.Reading.{Outcome, kind_of, next, build, finish, run, go_on, or_stuck, next_quoted, Tells}
+use Rattle.dom_query.specs.Reading.{Outcome, kind_of, next, build, finish, run, go_on, or_stuck, Tells}
 use Rattle.dom_query.proofs.Again.{base, read_again, run_step}
 use Rattle.dom_query.proofs.Ways.{read_sound}
 
@@ -196,21 +195,21 @@ first_fault text rest at e size =
 
 pub ok_clause : (text : Scalars) (r : Answer) → Tells (whole text) (length text) r → IfOk r (λ chains. IsSelector chains text)
 ok_clause text (Ok chains) t = read_sound chains text t
-ok_clause text (Err (memory.Fault (BadSelector at))) t = tt
-ok_clause text (Err memory.NoMemory) t = tt
+ok_clause text (Err (BadSelector at)) t = tt
+ok_clause text (Err NoMemory) t = tt
 
 same_read : (x y : Chains) (o : Outcome) → o ≡ Ok x → o ≡ Ok y → y ≡ x
 same_read x y o e h = cc
 
 pub only_clause : (text : Scalars) (r : Answer) → Tells (whole text) (length text) r → (chains : Chains) → IsSelector chains text → OkOrMemory r chains
 only_clause text (Ok read) t chains i = same_read chains read (whole text) (read_again chains text i) t
-only_clause text (Err (memory.Fault (BadSelector at))) t chains i = ok_or_err (whole text) chains t.0 (read_again chains text i) t.1
-only_clause text (Err memory.NoMemory) t chains i = tt
+only_clause text (Err (BadSelector at)) t chains i = ok_or_err (whole text) chains t.0 (read_again chains text i) t.1
+only_clause text (Err NoMemory) t chains i = tt
 
 pub fault_clause : (text : Scalars) (r : Answer) → Tells (whole text) (length text) r → IfFault r (λ at. IsFault text at)
 fault_clause text (Ok chains) t = tt
-fault_clause text (Err (memory.Fault (BadSelector at))) t = first_fault text t.0 at t.1 t.2
-fault_clause text (Err memory.NoMemory) t = tt
+fault_clause text (Err (BadSelector at)) t = first_fault text t.0 at t.1 t.2
+fault_clause text (Err NoMemory) t = tt
 
 shorter_front : (x y z : Scalars) → x ≡ y ++ z → IsFront x → IsFront y
 shorter_front x y z e f = (z ++ f.0, f.1, subst (λ (t : Scalars). IsSelector f.1 t) (ap (λ t. t ++ f.0) e ∙ append_assoc y z f.0) f.2)
@@ -233,14 +232,14 @@ one_fault text m n first other =
 
 pub first_clause : (text : Scalars) (r : Answer) → Tells (whole text) (length text) r → (at : ℕ) → IsFault text at → FaultOrMemory r at
 first_clause text (Ok chains) t at f = f.refused chains (read_sound chains text t)
-first_clause text (Err (memory.Fault (BadSelector place))) t at f = one_fault text place at (first_fault text t.0 place t.1 t.2) f
-first_clause text (Err memory.NoMemory) t at f = tt
+first_clause text (Err (BadSelector place)) t at f = one_fault text place at (first_fault text t.0 place t.1 t.2) f
+first_clause text (Err NoMemory) t at f = tt
 
 -- ---- the steps of the reading
 
 -- it stops at this scalar
 pub stops_here : (text : Scalars) (st : State) (at : ℕ) (b : Built) (c : ℕ) → at < length text → c ≡ get_or text at c → next st at c ≡ None
-    → run text st at b (drop at text) ≡ whole text → Tells (whole text) (length text) (Err (memory.Fault (BadSelector at)))
+    → run text st at b (drop at text) ≡ whole text → Tells (whole text) (length text) (Err (BadSelector at))
 unfolding run
 stops_here text st at b c lt is stop e =
     let split = drop_more text at c lt ∙ ap (λ x. x ∷ drop (at + 1) text) (sym is) in
@@ -265,5 +264,5 @@ ends_here text st at b r past e t = subst (λ (o : Outcome). Tells o (length tex
 none_after : (at size : ℕ) → at ≡ size → at + length {A = ℕ} [] ≡ size
 none_after at size e = omega arith
 
-pub stuck_at_end : (at size : ℕ) → at ≡ size → Tells (Err []) size (Err (memory.Fault (BadSelector at)))
+pub stuck_at_end : (at size : ℕ) → at ≡ size → Tells (Err []) size (Err (BadSelector at))
 stuck_at_end at size e = ([], refl, none_after at size e)

@@ -1,6 +1,6 @@
 -- To take the nearest ancestor that fits loses nothing.
 use Rattle.std.proofs.Common.{◌≡◌, ◌≢◌, ◌-◌, ◌+◌, ◌<◌, ◌≤◌, length, take, drop, get_or, ℕ, Bool, true, false, List, [], ◌∷◌, ◌++◌, refl, ap, sym, ◌∙◌, cond, arith}
-use Rattle.std.specs.Prelude.{◌&&◌, ◌||◌, Option, Some, None, reverse}
+use Rattle.std.specs.Prelude.{◌&&◌, ◌||◌, Option, Some, reverse}
 use Rattle.std.specs.Option.{option_map_or}
 use Rattle.std.specs.List.{position_from}
 use Rattle.std.proofs.lemmas.List.{reverse-append, take-append-drop, drop_more, at_drop_all}

@@ -1,6 +1,5 @@
 -- The places of the state that comes next are in order too.
-use Rattle.std.proofs.Common.{◌≡◌, ◌+◌, ◌≤◌, ℕ, Bool, true, false, ◌==◌, cond, subst, sym, arith}
-use Rattle.std.specs.Prelude.{Option, Some, None}
+use Rattle.std.proofs.Common.{◌+◌, ◌≤◌, ℕ, Bool, true, false, ◌==◌, cond, arith}
 use Rattle.dom_query.specs.declared.kind.Kind.{Kind}
 use Rattle.dom_query.specs.declared.kind.Kind.TheVariants as k
 use Rattle.dom_query.specs.declared.state.Span.{Span}

@@ -1,6 +1,6 @@
 -- What single tests of an element come to.
-use Rattle.std.proofs.Common.{◌≡◌, ℕ, Bool, true, false, List, refl, ap, sym, ◌∙◌}
-use Rattle.std.specs.Prelude.{◌||◌, Option, Some, None, codes, encode_utf8_all}
+use Rattle.std.proofs.Common.{◌≡◌, Bool, true, false, ap, sym, ◌∙◌}
+use Rattle.std.specs.Prelude.{◌||◌, Some, None, codes, encode_utf8_all}
 use Rattle.std.specs.Option.{option_map_or}
 use Rattle.std.specs.Str.{bytes_eq, chars}
 use Rattle.door.specs.Forest.{Form, Tagged, attribute_in}

@@ -1,7 +1,7 @@
 -- What is read to its end is spelled so by some selector: what may follow each state.
-use Rattle.std.proofs.Common.{◌≡◌, ◌+◌, ◌⊎◌, ℕ, Bool, true, false, ◌==◌, cond, List, [], ◌∷◌, refl, ap, sym, subst, ◌∙◌, arith, inl, inr}
+use Rattle.std.proofs.Common.{◌≡◌, ◌+◌, ◌⊎◌, ℕ, Bool, true, false, ◌==◌, cond, List, [], ◌∷◌, refl, sym, subst, arith, inl, inr}
 use Rattle.std.proofs.lemmas.Bool.Decides.{nat_tests}
-use Rattle.std.specs.Prelude.{Option, Some, None, Ok, Err}
+use Rattle.std.specs.Prelude.{Option, Some, None, Ok}
 use Rattle.dom_query.specs.declared.kind.Kind.{Kind}
 use Rattle.dom_query.specs.declared.kind.Kind.TheVariants as k
 use Rattle.dom_query.specs.declared.state.Sort.{Sort}
@@ -17,7 +17,7 @@ use Rattle.dom_query.specs.Names.{Scalars, NotNext, is_blank, is_name_scalar}
 use Rattle.dom_query.specs.Grammar as g
 use Rattle.dom_query.specs.Grammar.{Blanks, Name, UpToQuote, Value, IsPart, AreParts, IsCompound, IsChain, IsSelector, compound_of}
 use Rattle.dom_query.specs.Answers.{Chains}
-use Rattle.dom_query.specs.Reading.{Outcome, span, kind_of, next, build, finish, run, go_on, or_stuck, begin_part, begin_compound, after_part, if_name, if_close, next_before, next_gap, next_name, next_attribute, next_equals, next_quoted, next_bare}
+use Rattle.dom_query.specs.Reading.{Outcome, span, kind_of, next, build, finish, run, go_on, or_stuck, begin_part, begin_compound, after_part, if_name, if_close, next_before, next_gap, next_name, next_attribute, next_equals, next_bare}
 use Rattle.dom_query.proofs.KindFacts.{Fact, fact_of, is_name_kind, plain_scalar}
 use Rattle.dom_query.proofs.Again.{base, read_again}
 

@@ -1,5 +1,5 @@
 -- Why a text is no selector: the first place at which that is sure (this project's own).
-use Rattle.std.specs.Prelude.{◌≡◌, ◌<◌, ◌≤◌, ◌+◌, ℕ, List, ◌++◌, length, take}
+use Rattle.std.specs.Prelude.{◌<◌, ◌≤◌, ◌+◌, ℕ, List, ◌++◌, length, take}
 use Rattle.dom_query.specs.declared.selector.Compound.{Compound}
 use Rattle.dom_query.specs.Names.{Scalars}
 use Rattle.dom_query.specs.Grammar.{IsSelector}

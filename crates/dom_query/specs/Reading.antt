@@ -1,5 +1,5 @@
 -- How `parse_selector` reads a text from left to right: what may come next, and what each scalar ends.
-use Rattle.std.specs.Prelude.{◌≡◌, ℕ, ◌+◌, ◌==◌, length, cond, List, [], ◌∷◌, ◌++◌, Option, Some, None, Result, Ok, Err, slice_range}
+use Rattle.std.specs.Prelude.{◌≡◌, ℕ, ◌+◌, ◌==◌, length, cond, [], ◌∷◌, ◌++◌, Option, Some, None, Result, Ok, Err, slice_range}
 use Rattle.dom_query.specs.declared.kind.Kind.{Kind}
 use Rattle.dom_query.specs.declared.kind.Kind.TheVariants as k
 use Rattle.dom_query.specs.declared.state.Sort.{Sort}
@@ -8,15 +8,13 @@ use Rattle.dom_query.specs.declared.state.Span.{Span}
 use Rattle.dom_query.specs.declared.state.State.{State}
 use Rattle.dom_query.specs.declared.state.State.TheVariants as s
 use Rattle.dom_query.specs.declared.built.Built.{Built}
-use Rattle.dom_query.specs.declared.selector.Compound.{Compound}
 use Rattle.dom_query.specs.declared.selector.Part.{Part}
 use Rattle.dom_query.specs.declared.selector.Part.TheVariants.{Id, Class, Has, Is}
 use Rattle.dom_query.specs.declared.selector.TagTest.TheVariants.{Any, Named}
 use Rattle.dom_query.specs.Names.{Scalars, is_blank, is_name_scalar}
 use Rattle.dom_query.specs.Grammar.{compound_of}
 use Rattle.dom_query.specs.Answers.{Chains, Answer}
-use Rattle.base_text.specs.declared.memory.OrMemory.TheVariants as memory
-use Rattle.dom_query.specs.declared.fault.SelectorFault.TheVariants.{BadSelector}
+use Rattle.dom_query.specs.declared.fault.SelectorFault.TheVariants.{BadSelector, NoMemory}
 
 -- what a scalar is outside of quotes
 abbrev pub kind_of : ℕ → Kind
@@ -185,5 +183,5 @@ no_chains = record { chains = []; chain = []; tag = None; parts = [] }
 -- what a call answers of what is read
 abbrev pub Tells : Outcome → ℕ → Answer → Type 0
 Tells r size (Ok chains) = r ≡ Ok chains
-Tells r size (Err (memory.Fault (BadSelector at))) = (rest : Scalars) × (r ≡ Err rest) × (at + length rest ≡ size)
-Tells r size (Err memory.NoMemory) = Unit {0}
+Tells r size (Err (BadSelector at)) = (rest : Scalars) × (r ≡ Err rest) × (at + length rest ≡ size)
+Tells r size (Err NoMemory) = Unit {0}

@@ -14,13 +14,13 @@ use crate::fault::SelectorFault;
 use crate::kind::{Kind, kind_of};
 use crate::selector::Selector;
 use crate::state::{State, next};
-use base_text::{Mem, OrMemory, Text};
+use base_text::{Mem, Text};
 use std::alloc::{AllocError, Global};
 
-fn bad(at: u32) -> OrMemory<SelectorFault>
-    ensures { result ≡ OrMemory.Fault (SelectorFault.BadSelector at) }
+fn bad(at: u32) -> SelectorFault
+    ensures { result ≡ SelectorFault.BadSelector at }
 {
-    OrMemory::Fault(SelectorFault::BadSelector { at })
+    SelectorFault::BadSelector { at }
 }
 
 fn scalars(alloc: Global, s: &str) -> Result<Vec<char>, AllocError>
@@ -46,7 +46,7 @@ fn finish(
     s: &Text,
     state: State,
     mut built: Built,
-) -> Result<Selector, OrMemory<SelectorFault>>
+) -> Result<Selector, SelectorFault>
     requires { IsPlaced state (length s.now) }
     ensures { spec.Tells (spec.or_stuck [] (spec.finish s.now state (length s.now) built)) (length s.now) result }
 {
@@ -61,7 +61,7 @@ fn finish(
 }
 
 /// The selector that the scalars of a text spell.
-fn read(alloc: Global, s: &Text, text: &[char]) -> Result<Selector, OrMemory<SelectorFault>>
+fn read(alloc: Global, s: &Text, text: &[char]) -> Result<Selector, SelectorFault>
     requires { text.now ≡ s.now }
     ensures { spec.Tells (spec.run s.now State.Before 0 spec.no_chains s.now) (length s.now) result }
 {
@@ -83,7 +83,7 @@ fn read(alloc: Global, s: &Text, text: &[char]) -> Result<Selector, OrMemory<Sel
 ///
 /// `BadSelector` exactly where it spells none, at the first scalar such that no selector begins with
 /// the text through it, or at the text's length.
-pub fn parse_selector(alloc: Global, s: &Text) -> Result<Selector, OrMemory<SelectorFault>>
+pub fn parse_selector(alloc: Global, s: &Text) -> Result<Selector, SelectorFault>
     // What is read is spelled so.
     ensures ok { IfOk result (λ chains. IsSelector chains s.now) }
     // What is spelled so is read.

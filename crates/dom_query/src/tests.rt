@@ -1,7 +1,7 @@
 //! One tree and what each query lists of it; texts that are no selectors and where that is sure.
 
 use crate::{SelectorFault, by_id, by_tag, parse_selector, select};
-use base_text::{OrMemory, Text};
+use base_text::Text;
 use dom_tree::{NodeForm, NodeId, Tree};
 use door::Actor;
 use std::alloc::{AllocError, Global};
@@ -222,7 +222,7 @@ fn texts_that_spell_no_selector(rt: HostRuntime) -> Result<(), Fail> {
     ];
     for (text, at) in cases {
         match parse_selector(alloc, &Text::of(alloc, text)?) {
-            Err(OrMemory::Fault(SelectorFault::BadSelector { at: place })) => {
+            Err(SelectorFault::BadSelector { at: place }) => {
                 assert!(rt; place == at, "{text}: {place}");
             }
             _ => assert!(rt; false, "{text}"),

@@ -77,8 +77,8 @@ is_misfit f parent n =
 abbrev pub is_too_deep : Forest → ℕ → ℕ → Bool
 is_too_deep f parent n = not (has_levels (DEPTH_LIMIT - depth_of f parent) f n)
 
--- the first refusal of an insertion (DOM, ensure pre-insert validity; the limit is this project's own, and so is that the node itself
--- counts as the document's element)
+-- the first refusal of an insertion (DOM, ensure pre-insert validity, where the node itself counts as the document's element; the limit is this
+-- project's own)
 abbrev pub insert_refusal : Forest → ℕ → ℕ → Option ℕ → Option ErrorKind
 insert_refusal f parent n before =
     if is_no_parent f parent n then Some Hierarchy

@@ -1,4 +1,3 @@
-use Rattle.std.proofs.Common.{subst, ap, sym, ◌∙◌}
 use Rattle.dom_query.proofs.Firsts.{ok_clause, only_clause, fault_clause, first_clause}
 use Rattle.dom_query.proofs.parse.parse_selector.Goals as goal
 

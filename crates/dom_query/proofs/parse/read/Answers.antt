@@ -1,6 +1,5 @@
 use Rattle.std.proofs.Common.{◌≡◌, ◌<◌, ◌≤◌, ◌+◌, ℕ, List, length, drop, get_or, arith, ap, sym, subst, ◌∙◌}
 use Rattle.std.specs.Prelude.{Err}
-use Rattle.base_text.specs.declared.memory.OrMemory.{OrMemory}
 use Rattle.dom_query.specs.declared.fault.SelectorFault.{SelectorFault}
 use Rattle.dom_query.specs.declared.kind.Kind.{Kind}
 use Rattle.dom_query.specs.declared.built.Built.{Built}
@@ -13,7 +12,7 @@ returns-in_default c =
     let text = c.args.s.now in
     let lt : c.loop-at.at < length text = omega (arith, c.count-at-end.ensures.exact) in
     let is = c.index-text-at.is ∙ ap (λ (xs : List ℕ). get_or xs c.loop-at.at c.index-text-at.result) c.requires in
-    subst (λ (e : OrMemory SelectorFault). Tells (whole text) (length text) (Err e)) (sym c.bad.ensures)
+    subst (λ (e : SelectorFault). Tells (whole text) (length text) (Err e)) (sym c.bad.ensures)
     (stops_here text c.loop-at.state c.loop-at.at c.loop-at.built c.index-text-at.result lt is (sym c.next.ensures.exact ∙ c.in_default.is) c.loop-at.invariant.read)
 
 pub loop-at-preserved : goal.loop-at-preserved

@@ -1,7 +1,6 @@
 use Rattle.std.proofs.Common.{◌≡◌, ◌++◌, drop}
 use Rattle.std.specs.List.{filter}
 use Rattle.door.specs.Forest.{form_at}
-use Rattle.dom_query.specs.Fits.{fits}
 use Rattle.dom_query.specs.Queries.{numbers_of, is_of_tag}
 use Rattle.dom_query.proofs.queries.by_tag.Given as goal
 

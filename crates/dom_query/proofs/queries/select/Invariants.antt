@@ -1,8 +1,7 @@
 use Rattle.std.proofs.Common.{◌≡◌, ◌++◌, drop}
 use Rattle.std.specs.List.{filter}
-use Rattle.door.specs.Forest.{form_at}
 use Rattle.dom_query.specs.Fits.{fits}
-use Rattle.dom_query.specs.Queries.{numbers_of, is_of_tag}
+use Rattle.dom_query.specs.Queries.{numbers_of}
 use Rattle.dom_query.proofs.queries.select.Given as goal
 
 -- what is found and what passes of the nodes that are left is all that passes
