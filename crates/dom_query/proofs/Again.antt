@@ -11,15 +11,16 @@ use Rattle.dom_query.specs.declared.state.Span.{Span}
 use Rattle.dom_query.specs.declared.state.State.{State}
 use Rattle.dom_query.specs.declared.state.State.TheVariants as s
 use Rattle.dom_query.specs.declared.built.Built.{Built}
-use Rattle.dom_query.specs.declared.selector.Compound.{Compound}
-use Rattle.dom_query.specs.declared.selector.Part.{Part}
-use Rattle.dom_query.specs.declared.selector.Part.TheVariants.{Id, Class, Has, Is}
-use Rattle.dom_query.specs.declared.selector.TagTest.TheVariants.{Any}
-use Rattle.dom_query.specs.Names.{Scalars, NotNext, is_blank, is_name_scalar}
-use Rattle.dom_query.specs.Grammar as g
-use Rattle.dom_query.specs.Grammar.{Blanks, Name, UpToQuote, Value, IsPart, AreParts, IsCompound, IsChain, IsSelector, compound_of}
+use Rattle.dom_semantics.specs.declared.selectors.Compound.{Compound}
+use Rattle.dom_semantics.specs.declared.selectors.Part.{Part}
+use Rattle.dom_semantics.specs.declared.selectors.Part.TheVariants.{Id, Class, Has, Is}
+use Rattle.dom_semantics.specs.declared.selectors.TagTest.TheVariants.{Any}
+use Rattle.dom_semantics.specs.SelectorNames.{Scalars, NotNext, is_name_scalar}
+use Rattle.dom_semantics.specs.Whitespace.{is_white_space}
+use Rattle.dom_semantics.specs.SelectorGrammar as g
+use Rattle.dom_semantics.specs.SelectorGrammar.{Blanks, Name, UpToQuote, Value, IsPart, AreParts, IsCompound, IsChain, IsSelector, compound_of}
 use Rattle.dom_query.specs.Answers.{Chains}
-use Rattle.dom_query.specs.Reading.{Outcome, kind_of, span, next, build, finish, run, go_on, after_part, if_name, next_before, next_gap, next_name, next_attribute, next_equals, next_bare, with_part, with_name, with_any, end_compound, end_chain, end_at, end_gap, end_name, word_at}
+use Rattle.dom_query.specs.ReadingModel.{Outcome, kind_of, span, next, build, finish, run, go_on, after_part, if_name, next_before, next_gap, next_name, next_attribute, next_equals, next_bare, with_part, with_name, with_any, end_compound, end_chain, end_at, end_gap, end_name, word_at}
 use Rattle.dom_query.proofs.KindFacts.{is_name_kind, name_kind, plain_kind, blank_kind}
 
 -- from one state to another over what stands before the rest
@@ -355,7 +356,7 @@ blanks_before text suffix rest (g.blank c inside end e more) b at here =
 
 -- ---- chains
 
-gap_read : (text : Scalars) (b : Built) (at gap : ℕ) (mid next_ : Scalars) → drop at text ≡ gap ∷ mid → is_blank gap ≡ true → Blanks mid next_ → Reads text s.Whole s.Gap b (end_compound b) at (gap ∷ mid) next_
+gap_read : (text : Scalars) (b : Built) (at gap : ℕ) (mid next_ : Scalars) → drop at text ≡ gap ∷ mid → is_white_space gap ≡ true → Blanks mid next_ → Reads text s.Whole s.Gap b (end_compound b) at (gap ∷ mid) next_
 unfolding next build
 gap_read text b at gap mid next_ here e more =
     let one = step text s.Whole s.Gap b (end_compound b) at gap mid here (ap after_part (blank_kind gap e)) (ap (λ kind. end_at kind b) (blank_kind gap e)) in

@@ -7,11 +7,11 @@ use Rattle.dom_query.specs.declared.fault.SelectorFault.TheVariants.{BadSelector
 use Rattle.dom_query.specs.declared.state.State.{State}
 use Rattle.dom_query.specs.declared.state.State.TheVariants as s
 use Rattle.dom_query.specs.declared.built.Built.{Built}
-use Rattle.dom_query.specs.Names.{Scalars}
-use Rattle.dom_query.specs.Grammar.{IsSelector}
-use Rattle.dom_query.specs.Faults.{IsFront, IsFault}
+use Rattle.dom_semantics.specs.SelectorNames.{Scalars}
+use Rattle.dom_semantics.specs.SelectorGrammar.{IsSelector}
+use Rattle.dom_semantics.specs.SelectorFaults.{IsFront, IsFault}
 use Rattle.dom_query.specs.Answers.{Chains, Answer, OkOrMemory, IfFault, FaultOrMemory}
-use Rattle.dom_query.specs.Reading.{Outcome, kind_of, next, build, finish, run, go_on, or_stuck, Tells}
+use Rattle.dom_query.specs.ReadingModel.{Outcome, kind_of, next, build, finish, run, go_on, or_stuck, Tells}
 use Rattle.dom_query.proofs.Again.{base, read_again, run_step}
 use Rattle.dom_query.proofs.Ways.{read_sound}
 

@@ -5,9 +5,9 @@ use Rattle.std.specs.Option.{option_map_or}
 use Rattle.std.specs.List.{position_from}
 use Rattle.std.proofs.lemmas.List.{reverse-append, take-append-drop, drop_more, at_drop_all}
 use Prim.Native.Nat.{zero, suc}
-use Rattle.door.specs.Forest.{Forest, Node, parent_of, up_from, ancestors_of, is_among}
-use Rattle.dom_query.specs.declared.selector.Compound.{Compound}
-use Rattle.dom_query.specs.Fits.{fits_compound, fits_among, fits_inwards, fits_chain}
+use Rattle.dom_semantics.specs.Forest.{Forest, Node, parent_of, up_from, ancestors_of, is_among}
+use Rattle.dom_semantics.specs.declared.selectors.Compound.{Compound}
+use Rattle.dom_semantics.specs.SelectorFits.{fits_compound, fits_among, fits_inwards, fits_chain}
 
 or_true : (b : Bool) → (b || true) ≡ true
 or_true true = refl

@@ -3,12 +3,13 @@ use Rattle.std.proofs.Common.{◌≡◌, ◌⊎◌, ℕ, Bool, true, false, ◌=
 use Rattle.std.proofs.lemmas.Bool.Decides.{nat_tests}
 use Rattle.dom_query.specs.declared.kind.Kind.{Kind}
 use Rattle.dom_query.specs.declared.kind.Kind.TheVariants as k
-use Rattle.dom_query.specs.Names.{is_blank, is_name_scalar}
-use Rattle.dom_query.specs.Reading.{kind_of}
+use Rattle.dom_semantics.specs.SelectorNames.{is_name_scalar}
+use Rattle.dom_semantics.specs.Whitespace.{is_white_space}
+use Rattle.dom_query.specs.ReadingModel.{kind_of}
 
 abbrev pub Fact : Kind → ℕ → Type 0
 Fact k.Name c = is_name_scalar c ≡ true
-Fact k.Blank c = is_blank c ≡ true
+Fact k.Blank c = is_white_space c ≡ true
 Fact k.Star c = c ≡ 42
 Fact k.Hash c = c ≡ 35
 Fact k.Dot c = c ≡ 46
@@ -47,7 +48,7 @@ abbrev from_star : ℕ → Kind
 from_star c = cond (c == 42) k.Star (from_hash c)
 
 abbrev from_blank : ℕ → Kind
-from_blank c = cond (is_blank c) k.Blank (from_star c)
+from_blank c = cond (is_white_space c) k.Blank (from_star c)
 
 by_cond : (b : Bool) (x y : Kind) (c : ℕ) → (b ≡ true → Fact x c) → Fact y c → Fact (cond b x y) c
 by_cond true x y c h other = h refl
@@ -59,7 +60,7 @@ is_it c n e = grind (arith, nat_tests)
 pub fact_of : (c : ℕ) → Fact (kind_of c) c
 fact_of c =
     by_cond (is_name_scalar c) k.Name (from_blank c) c (λ e. e)
-    (by_cond (is_blank c) k.Blank (from_star c) c (λ e. e)
+    (by_cond (is_white_space c) k.Blank (from_star c) c (λ e. e)
     (by_cond (c == 42) k.Star (from_hash c) c (is_it c 42)
     (by_cond (c == 35) k.Hash (from_dot c) c (is_it c 35)
     (by_cond (c == 46) k.Dot (from_open c) c (is_it c 46)
@@ -80,7 +81,7 @@ plain_cond false x y h other = other
 
 plain_blank : (c : ℕ) → is_name_kind (from_blank c) ≡ false
 plain_blank c =
-    plain_cond (is_blank c) k.Blank (from_star c) refl
+    plain_cond (is_white_space c) k.Blank (from_star c) refl
     (plain_cond (c == 42) k.Star (from_hash c) refl
     (plain_cond (c == 35) k.Hash (from_dot c) refl
     (plain_cond (c == 46) k.Dot (from_open c) refl
@@ -109,8 +110,8 @@ plain_from false y e = refl
 pub plain_scalar : (c : ℕ) → is_name_kind (kind_of c) ≡ false → is_name_scalar c ≡ false
 plain_scalar c e = plain_from (is_name_scalar c) (from_blank c) e
 
-blank_plain : (c : ℕ) → is_blank c ≡ true → is_name_scalar c ≡ false
+blank_plain : (c : ℕ) → is_white_space c ≡ true → is_name_scalar c ≡ false
 blank_plain c e = grind (arith, nat_tests)
 
-pub blank_kind : (c : ℕ) → is_blank c ≡ true → kind_of c ≡ k.Blank
+pub blank_kind : (c : ℕ) → is_white_space c ≡ true → kind_of c ≡ k.Blank
 blank_kind c e = ap (λ b. cond b k.Name (from_blank c)) (blank_plain c e) ∙ ap (λ b. cond b k.Blank (from_star c)) e

@@ -10,7 +10,7 @@ use Rattle.std.proofs.lemmas.List.{map-append}
 use Rattle.base_text.specs.Scalars.{bytes_eq-encoded}
 use lib.Utf8.{encode, next}
 use lib.Dec.{ltb}
-use Rattle.dom_query.specs.Names.{lowered, is_same_name}
+use Rattle.dom_semantics.specs.SelectorNames.{lowered, is_same_name}
 
 -- bytes that are no ASCII
 abbrev pub AreHigh : List ℕ → Type 0

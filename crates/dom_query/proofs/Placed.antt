@@ -5,8 +5,8 @@ use Rattle.dom_query.specs.declared.kind.Kind.TheVariants as k
 use Rattle.dom_query.specs.declared.state.Span.{Span}
 use Rattle.dom_query.specs.declared.state.State.{State}
 use Rattle.dom_query.specs.declared.state.State.TheVariants as s
-use Rattle.dom_query.specs.Places.{IsPlaced, IfPlaced}
-use Rattle.dom_query.specs.Reading.{span, kind_of, next, begin_part, begin_compound, after_part, if_name, if_close, next_before, next_gap, next_name, next_attribute, next_equals, next_bare}
+use Rattle.dom_query.specs.PlacesModel.{IsPlaced, IfPlaced}
+use Rattle.dom_query.specs.ReadingModel.{span, kind_of, next, begin_part, begin_compound, after_part, if_name, if_close, next_before, next_gap, next_name, next_attribute, next_equals, next_bare}
 
 part : (kind : Kind) (at : ℕ) → IfPlaced (begin_part kind) at
 part k.Hash at = tt

@@ -3,10 +3,10 @@ use Rattle.std.proofs.Common.{◌≡◌, Bool, true, false, ap, sym, ◌∙◌}
 use Rattle.std.specs.Prelude.{◌||◌, Some, None, codes, encode_utf8_all}
 use Rattle.std.specs.Option.{option_map_or}
 use Rattle.std.specs.Str.{bytes_eq, chars}
-use Rattle.door.specs.Forest.{Form, Tagged, attribute_in}
-use Rattle.dom_query.specs.Names.{Scalars, is_same_name}
-use Rattle.dom_query.specs.Fits.{Attributes, has_id, has_word, has_class}
-use Rattle.dom_query.specs.Queries.{is_of_tag}
+use Rattle.dom_semantics.specs.Forest.{Form, Tagged, attribute_in}
+use Rattle.dom_semantics.specs.SelectorNames.{Scalars, is_same_name}
+use Rattle.dom_semantics.specs.SelectorFits.{Attributes, has_id, has_word, has_class}
+use Rattle.dom_semantics.specs.Queries.{is_of_tag}
 use Rattle.dom_query.proofs.Letters.{id_name, class_name, star_name}
 use Rattle.dom_query.proofs.Words.{has_word-encodes}
 

@@ -6,10 +6,10 @@ use Rattle.std.specs.Option.{option_or}
 use Rattle.std.proofs.lemmas.List.{at_drop_more, at_drop_all, map-append}
 use Rattle.std.proofs.lemmas.List.Folds.{find-append}
 use Prim.Native.Nat.{zero, suc}
-use Rattle.door.specs.Forest.{Forest, children_of, in_order, tree_order, DEPTH_LIMIT}
+use Rattle.dom_semantics.specs.Forest.{Forest, children_of, in_order, tree_order, DEPTH_LIMIT}
 use Rattle.dom_tree.specs.declared.form.NodeId.{NodeId}
 use Rattle.dom_tree.specs.Ids.{number_of}
-use Rattle.dom_query.specs.Queries.{numbers_of}
+use Rattle.dom_tree.specs.Ids.{numbers_of}
 
 abbrev pub below : ℕ → Forest → List ℕ → List ℕ
 below levels f ns = flat_map (λ child. in_order levels f child) ns

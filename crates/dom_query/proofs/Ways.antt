@@ -9,15 +9,16 @@ use Rattle.dom_query.specs.declared.state.Span.{Span}
 use Rattle.dom_query.specs.declared.state.State.{State}
 use Rattle.dom_query.specs.declared.state.State.TheVariants as s
 use Rattle.dom_query.specs.declared.built.Built.{Built}
-use Rattle.dom_query.specs.declared.selector.Compound.{Compound}
-use Rattle.dom_query.specs.declared.selector.Part.{Part}
-use Rattle.dom_query.specs.declared.selector.Part.TheVariants.{Id, Class, Has, Is}
-use Rattle.dom_query.specs.declared.selector.TagTest.TheVariants.{Any, Named}
-use Rattle.dom_query.specs.Names.{Scalars, NotNext, is_blank, is_name_scalar}
-use Rattle.dom_query.specs.Grammar as g
-use Rattle.dom_query.specs.Grammar.{Blanks, Name, UpToQuote, Value, IsPart, AreParts, IsCompound, IsChain, IsSelector, compound_of}
+use Rattle.dom_semantics.specs.declared.selectors.Compound.{Compound}
+use Rattle.dom_semantics.specs.declared.selectors.Part.{Part}
+use Rattle.dom_semantics.specs.declared.selectors.Part.TheVariants.{Id, Class, Has, Is}
+use Rattle.dom_semantics.specs.declared.selectors.TagTest.TheVariants.{Any, Named}
+use Rattle.dom_semantics.specs.SelectorNames.{Scalars, NotNext, is_name_scalar}
+use Rattle.dom_semantics.specs.Whitespace.{is_white_space}
+use Rattle.dom_semantics.specs.SelectorGrammar as g
+use Rattle.dom_semantics.specs.SelectorGrammar.{Blanks, Name, UpToQuote, Value, IsPart, AreParts, IsCompound, IsChain, IsSelector, compound_of}
 use Rattle.dom_query.specs.Answers.{Chains}
-use Rattle.dom_query.specs.Reading.{Outcome, span, kind_of, next, build, finish, run, go_on, or_stuck, begin_part, begin_compound, after_part, if_name, if_close, next_before, next_gap, next_name, next_attribute, next_equals, next_bare}
+use Rattle.dom_query.specs.ReadingModel.{Outcome, span, kind_of, next, build, finish, run, go_on, or_stuck, begin_part, begin_compound, after_part, if_name, if_close, next_before, next_gap, next_name, next_attribute, next_equals, next_bare}
 use Rattle.dom_query.proofs.KindFacts.{Fact, fact_of, is_name_kind, plain_scalar}
 use Rattle.dom_query.proofs.Again.{base, read_again}
 
@@ -29,7 +30,7 @@ pub data End : Scalars → Type 0 where
 -- behind a compound
 pub data Behind : Scalars → Type 0 where
   ends : (text : Scalars) → End text → Behind text
-  more : (cs : List Compound) (gap : ℕ) (mid start end : Scalars) → is_blank gap ≡ true → Blanks mid start → IsChain cs start end → End end → Behind (gap ∷ mid)
+  more : (cs : List Compound) (gap : ℕ) (mid start end : Scalars) → is_white_space gap ≡ true → Blanks mid start → IsChain cs start end → End end → Behind (gap ∷ mid)
 
 -- behind a part
 pub record After (text : Scalars) : Type 0 where
@@ -154,11 +155,11 @@ part_then k.Other c text e f = absurd f
 
 -- ---- compounds and chains
 
-blank_end : (c : ℕ) (text : Scalars) → is_blank c ≡ true → End text → End (c ∷ text)
+blank_end : (c : ℕ) (text : Scalars) → is_white_space c ≡ true → End text → End (c ∷ text)
 blank_end c text e (last inside bl) = last (c ∷ inside) (g.blank c inside [] e bl)
 blank_end c text e (comma chains inside rest bl i) = comma chains (c ∷ inside) rest (g.blank c inside (44 ∷ rest) e bl) i
 
-blank_behind : (c : ℕ) (text : Scalars) → is_blank c ≡ true → AfterGap text → Behind (c ∷ text)
+blank_behind : (c : ℕ) (text : Scalars) → is_white_space c ≡ true → AfterGap text → Behind (c ∷ text)
 blank_behind c text e (at_end inside f) = ends (c ∷ inside) (blank_end c inside e f)
 blank_behind c text e (at_chain inside start bl f) = more f.cs c inside start f.end e bl f.is f.behind
 
@@ -217,7 +218,7 @@ selects_of text start bl f = selects_by text start bl f.cs f.end f.is f.behind
 chain_selects : (text : Scalars) → ChainThen text → Selects text
 chain_selects text f = selects_of text text (g.no_blank text) f
 
-blank_selects : (c : ℕ) (text : Scalars) → is_blank c ≡ true → (chains : Chains) → IsSelector chains text → Selects (c ∷ text)
+blank_selects : (c : ℕ) (text : Scalars) → is_white_space c ≡ true → (chains : Chains) → IsSelector chains text → Selects (c ∷ text)
 blank_selects c text e chains (g.chain ch inside start end bl i after) = record { chains = ch ∷ []; is = g.chain ch (c ∷ inside) start end (g.blank c inside start e bl) i after }
 blank_selects c text e chains (g.either ch others inside start end rest bl i after j) =
     record { chains = ch ∷ others; is = g.either ch others (c ∷ inside) start end rest (g.blank c inside start e bl) i after j }
@@ -240,7 +241,7 @@ before_then at k.Other c text e f = absurd f
 gap_chain : (text : Scalars) → ChainThen text → AfterGap text
 gap_chain text f = at_chain text text (g.no_blank text) f
 
-blank_gap : (c : ℕ) (text : Scalars) → is_blank c ≡ true → AfterGap text → AfterGap (c ∷ text)
+blank_gap : (c : ℕ) (text : Scalars) → is_white_space c ≡ true → AfterGap text → AfterGap (c ∷ text)
 blank_gap c text e (at_end inside f) = at_end (c ∷ inside) (blank_end c inside e f)
 blank_gap c text e (at_chain inside start bl f) = at_chain (c ∷ inside) start (g.blank c inside start e bl) f
 

@@ -9,13 +9,14 @@ use Rattle.std.proofs.lemmas.Str.{encode_ascii, length-encode, len_utf8_bounds}
 use Prim.Native.Nat.{zero, suc}
 use lib.Utf8.{encode}
 use Rattle.base_text.specs.Scalars.{bytes_eq-encoded}
-use Rattle.dom_query.specs.Names.{is_blank, onto_first, parts_between}
-use Rattle.dom_query.specs.Fits.{has_word}
-use Rattle.dom_query.specs.Words.{after_word}
+use Rattle.dom_semantics.specs.Whitespace.{is_white_space}
+use Rattle.std.specs.List.{onto_first, slice_split}
+use Rattle.dom_semantics.specs.SelectorFits.{has_word}
+use Rattle.dom_query.specs.WordsModel.{after_word}
 use Rattle.dom_query.proofs.Letters.{AreHigh, encode-high, low_or_high}
 
 abbrev pub parts_of : List ℕ → List (List ℕ)
-parts_of t = parts_between is_blank t
+parts_of t = slice_split is_white_space t
 
 -- the parts behind the first
 abbrev pub further : List ℕ → List (List ℕ)
@@ -31,7 +32,7 @@ le_step false c cs h = omega arith
 pub after_word-le : (t : List ℕ) → length (after_word t) ≤ length t
 unfolding after_word
 after_word-le [] = omega arith
-after_word-le (c ∷ cs) = le_step (is_blank c) c cs (after_word-le cs)
+after_word-le (c ∷ cs) = le_step (is_white_space c) c cs (after_word-le cs)
 
 first_step : (b : Bool) (c : ℕ) (cs rest : List ℕ) (parts : List (List ℕ)) → length rest ≤ length cs → parts ≡ take (length cs - length rest) cs ∷ further rest
     → cond b ([] ∷ parts_of cs) (onto_first c parts) ≡ take (length (c ∷ cs) - length (cond b (c ∷ cs) rest)) (c ∷ cs) ∷ further (cond b (c ∷ cs) rest)
@@ -45,29 +46,29 @@ first_step false c cs rest parts le e =
 pub first_part : (t : List ℕ) → parts_of t ≡ take (length t - length (after_word t)) t ∷ further (after_word t)
 unfolding after_word
 first_part [] = refl
-first_part (c ∷ cs) = first_step (is_blank c) c cs (after_word cs) (parts_of cs) (after_word-le cs) (first_part cs)
+first_part (c ∷ cs) = first_step (is_white_space c) c cs (after_word cs) (parts_of cs) (after_word-le cs) (first_part cs)
 
 -- ---- the same in bytes
 
 abbrev AreInWord : List ℕ → Type 0
 AreInWord [] = Unit {0}
-AreInWord (b ∷ bs) = (is_blank b ≡ false) × AreInWord bs
+AreInWord (b ∷ bs) = (is_white_space b ≡ false) × AreInWord bs
 
 abbrev onto_bytes : List ℕ → List (List ℕ) → List (List ℕ)
 onto_bytes [] parts = parts
 onto_bytes (b ∷ bs) parts = onto_first b (onto_bytes bs parts)
 
-high_in_word : (b : ℕ) → 128 ≤ b → is_blank b ≡ false
+high_in_word : (b : ℕ) → 128 ≤ b → is_white_space b ≡ false
 high_in_word b h = grind (arith, nat_tests)
 
 are_in_word : (bs : List ℕ) → AreHigh bs → AreInWord bs
 are_in_word [] h = tt
 are_in_word (b ∷ bs) h = (high_in_word b h.0, are_in_word bs h.1)
 
-encode-in_word : (c : ℕ) → is_blank c ≡ false → AreInWord (encode c)
+encode-in_word : (c : ℕ) → is_white_space c ≡ false → AreInWord (encode c)
 encode-in_word c e = elim (low_or_high c) [ inl h ↦ rw (encode_ascii c h) ((e, tt)) | inr h ↦ are_in_word (encode c) (encode-high c h) ]
 
-blank_low : (c : ℕ) → is_blank c ≡ true → c < 128
+blank_low : (c : ℕ) → is_white_space c ≡ true → c < 128
 blank_low c e = grind (arith, nat_tests)
 
 parts-in_word : (bs rest : List ℕ) → AreInWord bs → parts_of (bs ++ rest) ≡ onto_bytes bs (parts_of rest)
@@ -95,7 +96,7 @@ map_onto : (c : ℕ) (parts : List (List ℕ)) → map encode_utf8_all (onto_fir
 map_onto c [] = ap (λ x. x ∷ []) (append-none (encode c)) ∙ sym (onto_none (encode c) (encode-some c))
 map_onto c (part ∷ parts) = sym (onto_some (encode c) (encode_utf8_all part) (map encode_utf8_all parts))
 
-bytes_step : (b : Bool) (c : ℕ) (cs : List ℕ) → is_blank c ≡ b → parts_of (encode_utf8_all cs) ≡ map encode_utf8_all (parts_of cs)
+bytes_step : (b : Bool) (c : ℕ) (cs : List ℕ) → is_white_space c ≡ b → parts_of (encode_utf8_all cs) ≡ map encode_utf8_all (parts_of cs)
     → parts_of (encode c ++ encode_utf8_all cs) ≡ map encode_utf8_all (cond b ([] ∷ parts_of cs) (onto_first c (parts_of cs)))
 bytes_step true c cs e h =
     ap (λ x. parts_of (x ++ encode_utf8_all cs)) (encode_ascii c (blank_low c e))
@@ -105,7 +106,7 @@ bytes_step false c cs e h =
 
 parts-encodes : (t : List ℕ) → parts_of (encode_utf8_all t) ≡ map encode_utf8_all (parts_of t)
 parts-encodes [] = refl
-parts-encodes (c ∷ cs) = bytes_step (is_blank c) c cs refl (parts-encodes cs)
+parts-encodes (c ∷ cs) = bytes_step (is_white_space c) c cs refl (parts-encodes cs)
 
 any-encodes : (name : List ℕ) (parts : List (List ℕ)) → list_any (λ w. bytes_eq w (encode_utf8_all name)) (map encode_utf8_all parts) ≡ list_any (λ w. bytes_eq w name) parts
 any-encodes name [] = refl

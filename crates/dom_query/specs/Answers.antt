@@ -2,7 +2,7 @@
 use Rattle.std.specs.Prelude.{◌≡◌, ℕ, List, Result, Ok, Err}
 use Rattle.dom_query.specs.declared.fault.SelectorFault.{SelectorFault}
 use Rattle.dom_query.specs.declared.fault.SelectorFault.TheVariants.{BadSelector, NoMemory}
-use Rattle.dom_query.specs.declared.selector.Compound.{Compound}
+use Rattle.dom_semantics.specs.declared.selectors.Compound.{Compound}
 
 abbrev pub Chains : Type 0
 Chains = List (List Compound)

@@ -1,9 +1,4 @@
 pub mod Answers
-pub mod Faults
-pub mod Fits
-pub mod Grammar
-pub mod Names
-pub mod Places
-pub mod Queries
-pub mod Reading
-pub mod Words
+pub mod PlacesModel
+pub mod ReadingModel
+pub mod WordsModel

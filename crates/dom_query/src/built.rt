@@ -1,13 +1,13 @@
 //! A selector as far as it is read.
 
 ghost use Rattle.std.specs.Prelude.{◌≡◌, ◌≤◌, ◌∷◌, ◌++◌, [], length, OnOk, slice_range, Some, None};
-ghost use Rattle.dom_query.specs.Reading as spec;
-ghost use Rattle.dom_query.specs.Places.{IsPlaced};
+ghost use Rattle.dom_query.specs.ReadingModel as spec;
+ghost use Rattle.dom_query.specs.PlacesModel.{IsPlaced};
 
 use crate::kind::Kind;
-use crate::selector::{Compound, Part, TagTest};
 use crate::state::{Sort, Span, State};
 use base_text::{Mem, Text};
+use dom_semantics::{Compound, Part, TagTest};
 use door::List;
 use std::alloc::Global;
 use std::mem;
@@ -164,7 +164,7 @@ impl Built {
     }
 
     /// Builds what the scalar at a place ends.
-    #[tactic(auto, unfolding(crate::specs::Reading::build))]
+    #[tactic(auto, unfolding(crate::specs::ReadingModel::build))]
     pub(crate) fn build(
         &mut self,
         alloc: Global,

@@ -3,15 +3,17 @@
 ghost use Rattle.std.specs.Prelude.{◌≡◌, ◌<◌, length, reverse};
 ghost use Rattle.std.specs.Option.{option_copied};
 ghost use Rattle.std.specs.Str.{bytes_eq, chars};
-ghost use Rattle.door.specs.Forest.{attribute_in, up_from, DEPTH_LIMIT};
-ghost use Rattle.dom_query.specs.Names as names;
-ghost use Rattle.dom_query.specs.Fits as spec;
-ghost use Rattle.dom_query.specs.Words as words;
+ghost use Rattle.dom_semantics.specs.Forest.{attribute_in, up_from, DEPTH_LIMIT};
+ghost use Rattle.dom_semantics.specs.SelectorNames as names;
+ghost use Rattle.dom_semantics.specs.Whitespace.{is_white_space};
+ghost use Rattle.dom_semantics.specs.SelectorFits as spec;
+ghost use Rattle.dom_query.specs.WordsModel as words;
 ghost use Prim.Native.Nat.{suc};
 
-use crate::selector::{Compound, Part, Selector, TagTest};
+use crate::selector::Selector;
 use base_text::Text;
-use dom_tree::{NodeForm, NodeId, Tree};
+use dom_semantics::{Compound, Part, TagTest};
+use dom_tree::{NodeForm, NodeId, TREE_LEVELS, Tree};
 
 /// Whether two names are the same but for the case of ASCII letters.
 pub(crate) fn is_same_name(a: &Text, b: &Text) -> bool
@@ -59,19 +61,19 @@ pub(crate) fn has_id(id: &Text, attributes: &[(Text, Text)]) -> bool
     }
 }
 
-fn is_blank_byte(b: u8) -> bool
-    ensures { result ≡ names.is_blank b }
+fn is_white_space_byte(b: u8) -> bool
+    ensures { result ≡ is_white_space b }
 {
     matches!(b, b'\t' | b'\n' | 12 | b'\r' | b' ')
 }
 
 /// What follows the first part of a text between white space, from that on.
-#[tactic(auto, unfolding(crate::specs::Words::after_word))]
+#[tactic(auto, unfolding(crate::specs::WordsModel::after_word))]
 fn after_word(mut text: &[u8]) -> &[u8]
     ensures { result.now ≡ words.after_word text.entry.now }
 {
     while let [b, rest @ ..] = text {
-        if is_blank_byte(*b) {
+        if is_white_space_byte(*b) {
             return text;
         }
         text = rest;
@@ -177,7 +179,7 @@ fn fits_above(tree: &Tree, compounds: &[Compound], n: NodeId, steps: u32) -> boo
 fn most_steps() -> u32
     ensures { result ≡ suc DEPTH_LIMIT }
 {
-    257
+    TREE_LEVELS
 }
 
 fn fits_chain(tree: &Tree, chain: &[Compound], n: NodeId) -> bool

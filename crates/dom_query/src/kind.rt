@@ -1,8 +1,9 @@
 //! The kinds of scalars in a selector.
 
 ghost use Rattle.std.specs.Prelude.{◌≡◌};
-ghost use Rattle.dom_query.specs.Names as spec;
-ghost use Rattle.dom_query.specs.Reading as reading;
+ghost use Rattle.dom_semantics.specs.SelectorNames as spec;
+ghost use Rattle.dom_semantics.specs.Whitespace.{is_white_space};
+ghost use Rattle.dom_query.specs.ReadingModel as reading;
 
 /// What a scalar is outside of quotes.
 #[derive(Clone, Copy)]
@@ -20,8 +21,8 @@ pub(crate) enum Kind {
     Other,
 }
 
-fn is_blank(c: char) -> bool
-    ensures { result ≡ spec.is_blank c }
+fn is_white_space(c: char) -> bool
+    ensures { result ≡ is_white_space c }
 {
     matches!(c, '\t' | '\n' | '\u{C}' | '\r' | ' ')
 }
@@ -43,7 +44,7 @@ pub(crate) fn kind_of(c: char) -> Kind
     if is_name_scalar(c) {
         return Kind::Name;
     }
-    if is_blank(c) {
+    if is_white_space(c) {
         return Kind::Blank;
     }
     match c {

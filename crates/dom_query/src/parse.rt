@@ -4,10 +4,10 @@ ghost use Rattle.std.specs.Prelude.{◌≡◌, ◌≤◌, ℕ, List, length, IfO
 ghost use Rattle.base_text.specs.declared.text.TheConstants.{SOURCE_LIMIT};
 ghost use Rattle.std.specs.Str.{chars};
 ghost use Rattle.dom_query.specs.Answers.{Chains, IfFault, OkOrMemory, FaultOrMemory};
-ghost use Rattle.dom_query.specs.Faults.{IsFault};
-ghost use Rattle.dom_query.specs.Grammar.{IsSelector};
-ghost use Rattle.dom_query.specs.Places.{IsPlaced};
-ghost use Rattle.dom_query.specs.Reading as spec;
+ghost use Rattle.dom_semantics.specs.SelectorFaults.{IsFault};
+ghost use Rattle.dom_semantics.specs.SelectorGrammar.{IsSelector};
+ghost use Rattle.dom_query.specs.PlacesModel.{IsPlaced};
+ghost use Rattle.dom_query.specs.ReadingModel as spec;
 
 use crate::built::Built;
 use crate::fault::SelectorFault;
@@ -40,7 +40,7 @@ fn whole(alloc: Global, mut built: Built) -> Mem<Selector>
 }
 
 /// The selector, where the text may end in this state.
-#[tactic(auto, using(crate::proofs::Firsts::stuck_at_end), unfolding(crate::specs::Reading::finish, crate::specs::Reading::build))]
+#[tactic(auto, using(crate::proofs::Firsts::stuck_at_end), unfolding(crate::specs::ReadingModel::finish, crate::specs::ReadingModel::build))]
 fn finish(
     alloc: Global,
     s: &Text,

@@ -1,9 +1,9 @@
 //! What a search of a tree lists.
 
 ghost use Rattle.std.specs.Prelude.{◌≡◌, ◌<◌, length, IfOk};
-ghost use Rattle.door.specs.Forest.{form_at};
-ghost use Rattle.dom_tree.specs.Ids.{number_of};
-ghost use Rattle.dom_query.specs.Queries as spec;
+ghost use Rattle.dom_semantics.specs.Forest.{form_at};
+ghost use Rattle.dom_tree.specs.Ids.{number_of, numbers_of};
+ghost use Rattle.dom_semantics.specs.Queries as spec;
 
 use crate::fits::{fits, is_same_name, is_text};
 use crate::selector::Selector;
@@ -16,7 +16,7 @@ use std::alloc::Global;
 /// string). Ancestors are looked for in the whole tree, also above the root of the search.
 pub fn select(alloc: Global, tree: &Tree, root: NodeId, s: &Selector) -> Mem<Vec<NodeId>>
     requires { root.0 < length tree.now }
-    ensures { IfOk result (λ nodes. spec.numbers_of nodes.items ≡ spec.selected tree.now root.0 s.now) }
+    ensures { IfOk result (λ nodes. numbers_of nodes.items ≡ spec.selected tree.now root.0 s.now) }
 {
     let below = descendants(alloc, tree, root)?;
     let mut found = Vec::new(alloc);
@@ -60,7 +60,7 @@ fn is_of_tag(tree: &Tree, tag: &Text, n: NodeId) -> bool
 /// list of elements with qualified name). Tags are compared in ASCII lower case.
 pub fn by_tag(alloc: Global, tree: &Tree, root: NodeId, tag: &Text) -> Mem<Vec<NodeId>>
     requires { root.0 < length tree.now }
-    ensures { IfOk result (λ nodes. spec.numbers_of nodes.items ≡ spec.tagged tree.now root.0 tag.now) }
+    ensures { IfOk result (λ nodes. numbers_of nodes.items ≡ spec.tagged tree.now root.0 tag.now) }
 {
     let below = descendants(alloc, tree, root)?;
     let mut found = Vec::new(alloc);

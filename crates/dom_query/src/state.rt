@@ -2,8 +2,8 @@
 
 ghost use Rattle.std.specs.Prelude.{◌≡◌, ◌<◌, ◌+◌};
 ghost use Rattle.base_text.specs.declared.text.TheConstants.{SOURCE_LIMIT};
-ghost use Rattle.dom_query.specs.Places.{IsPlaced, IfPlaced};
-ghost use Rattle.dom_query.specs.Reading as spec;
+ghost use Rattle.dom_query.specs.PlacesModel.{IsPlaced, IfPlaced};
+ghost use Rattle.dom_query.specs.ReadingModel as spec;
 
 use crate::kind::{Kind, kind_of};
 use base_text::SOURCE_LIMIT;
@@ -168,7 +168,7 @@ fn next_bare(state: State, kind: Kind) -> Option<State>
 }
 
 /// The state behind the scalar `c` at the place `at`; none where no selector goes on so.
-#[tactic(auto, using(crate::proofs::Placed::next_placed), unfolding(crate::specs::Reading::next))]
+#[tactic(auto, using(crate::proofs::Placed::next_placed), unfolding(crate::specs::ReadingModel::next))]
 pub(crate) fn next(state: State, at: u32, c: char) -> Option<State>
     requires { at < SOURCE_LIMIT }
     ensures exact { result ≡ spec.next state at c }

@@ -2,20 +2,22 @@
 
 ghost use Rattle.std.specs.Prelude.{◌≡◌, ◌<◌, ◌++◌, length, OnOk, IfOk, All};
 ghost use Rattle.std.specs.List.{flat_map, find};
-ghost use Rattle.door.specs.Forest.{in_order, children_of, descendants_of, DEPTH_LIMIT};
+ghost use Rattle.dom_semantics.specs.Forest as forest;
+ghost use Rattle.dom_semantics.specs.Forest.{in_order, children_of, descendants_of};
 ghost use Rattle.dom_tree.specs.Ids.{number_of};
-ghost use Rattle.dom_query.specs.Queries.{is_of_id};
+ghost use Rattle.dom_semantics.specs.Queries.{is_of_id};
 
 use crate::fits::has_id;
 use base_text::{Mem, Text};
 use dom_tree::{NodeForm, NodeId, Tree};
+use door::DEPTH_LIMIT;
 use std::alloc::Global;
 
 /// The most steps of a node below its root.
 pub(crate) fn depth_limit() -> u32
-    ensures { result ≡ DEPTH_LIMIT }
+    ensures { result ≡ forest.DEPTH_LIMIT }
 {
-    256
+    DEPTH_LIMIT
 }
 
 /// Adds what is below a node in tree order, for so many levels.

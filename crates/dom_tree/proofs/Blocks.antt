@@ -7,8 +7,8 @@ use Rattle.std.proofs.Math.Seq.{get_or-append_right}
 use Rattle.std.proofs.lemmas.Bool.{both_ways, cases_Bool, cases_eq, cases_lt, eqb-true, eq-eqb, or_cases, or_left, or_right, false_from_ne_true}
 use Rattle.std.proofs.lemmas.List.{get_or_append_left, get_or-append-add, get_or_past}
 use Rattle.door.specs.declared.values.Actor.{Actor}
-use Rattle.door.specs.Forest.{Node, Forest, IsForest, no_node, node_at, form_at, children_of, is_among, is_child, is_document, are_different, depth_of, DEPTH_LIMIT}
-use Rattle.door.specs.Changes.{laid, starts, copied}
+use Rattle.dom_semantics.specs.Forest.{Node, Forest, IsForest, no_node, node_at, form_at, children_of, is_among, is_child, is_document, are_different, depth_of, DEPTH_LIMIT}
+use Rattle.dom_semantics.specs.Changes.{laid, starts, copied}
 use Rattle.dom_tree.specs.Copies.{parents_laid, parents_of_copies}
 use Rattle.dom_tree.proofs.Parents.{own_parents, depth_of-some, none≢some, some_same}
 

@@ -1,6 +1,6 @@
 -- A node's children are nodes.
 use Rattle.std.proofs.Common.{◌≡◌, ◌<◌, subst, ℕ, true, false, arith, List, [], ◌∷◌, length, slice_index_or}
-use Rattle.door.specs.Forest.{Forest, IsForest, children_of, is_among}
+use Rattle.dom_semantics.specs.Forest.{Forest, IsForest, children_of, is_among}
 use Rattle.dom_tree.proofs.LevelLemmas.{is_among-at}
 
 pub children_known : (f : Forest) (n : ℕ) (cs : List ℕ) → IsForest f → cs ≡ children_of f n → (k d : ℕ) → k < length cs → slice_index_or cs k d < length f

@@ -8,8 +8,8 @@ use Rattle.std.proofs.lemmas.List.{append-nil}
 use Rattle.door.specs.declared.requests.ErrorKind.TheVariants.{Hierarchy, NotFound, TooDeep}
 use Rattle.door.specs.declared.values.Actor.{Actor}
 use Rattle.dom_tree.specs.Tree.{IsTree}
-use Rattle.door.specs.Forest.{Forest, is_document, form_at, takes_children, is_inclusive_ancestor}
-use Rattle.door.specs.Changes.{insert_refusal, is_no_parent, is_place, is_misfit, is_too_deep}
+use Rattle.dom_semantics.specs.Forest.{Forest, is_document, form_at, takes_children, is_inclusive_ancestor}
+use Rattle.dom_semantics.specs.Changes.{insert_refusal, cannot_parent, is_child_of_parent, violates_document, is_too_deep}
 use Rattle.dom_tree.proofs.Parents.{none≢some}
 use Rattle.dom_tree.proofs.Moves.{CanMove}
 
@@ -27,9 +27,9 @@ not_refused false x rest e = (refl, e)
 
 pub can_move : (f : Forest) (parent n : ℕ) (before : Option ℕ) → parent < length f → n < length f → insert_refusal f parent n before ≡ None → CanMove f parent n
 can_move f parent n before known itself none =
-    let first = not_refused (is_no_parent f parent n) Hierarchy _ none in
-    let second = not_refused (not (is_place f parent before)) NotFound _ first.1 in
-    let third = not_refused (is_misfit f parent n) Hierarchy _ second.1 in
+    let first = not_refused (cannot_parent f parent n) Hierarchy _ none in
+    let second = not_refused (not (is_child_of_parent f parent before)) NotFound _ first.1 in
+    let third = not_refused (violates_document f parent n) Hierarchy _ second.1 in
     let last = not_refused (is_too_deep f parent n) TooDeep _ third.1 in
     record {
       known = known;

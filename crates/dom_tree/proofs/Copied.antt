@@ -6,8 +6,8 @@ use Rattle.std.proofs.Math.Seq.{get_or-append_right}
 use Rattle.std.proofs.lemmas.Bool.{cases_Bool, cases_lt, lt-ltb, le-ltb}
 use Rattle.std.proofs.lemmas.List.{get_or_append_left, get_or_past}
 use Rattle.door.specs.declared.values.Actor.{Actor}
-use Rattle.door.specs.Forest.{Node, Forest, IsForest, no_node, node_at, form_at, children_of, is_among, is_child, is_document, made_by, parent_of, depth_of, are_different, in_order, tree_order, DEPTH_LIMIT}
-use Rattle.door.specs.Changes.{laid, starts, copied}
+use Rattle.dom_semantics.specs.Forest.{Node, Forest, IsForest, no_node, node_at, form_at, children_of, is_among, is_child, is_document, made_by, parent_of, depth_of, are_different, in_order, tree_order, DEPTH_LIMIT}
+use Rattle.dom_semantics.specs.Changes.{laid, starts, copied}
 use Rattle.dom_tree.specs.Copies.{parents_of_copies}
 use Rattle.dom_tree.specs.Counts.{count_in, IsRaised}
 use Rattle.dom_tree.specs.Tree.{IsTree}

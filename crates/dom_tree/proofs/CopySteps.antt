@@ -5,8 +5,8 @@ use Rattle.std.proofs.lemmas.List.{at_drop_more, at_drop_all, append-nil}
 use Rattle.std.proofs.Math.Seq.{get_or-append_seam, set-append_seam}
 use Rattle.std.specs.Prelude.{slice_set}
 use Rattle.door.specs.declared.values.Actor.{Actor}
-use Rattle.door.specs.Forest.{Forest, Node, no_node, node_at, children_of}
-use Rattle.door.specs.Changes.{laid, starts, copied, with_children}
+use Rattle.dom_semantics.specs.Forest.{Forest, Node, no_node, node_at, children_of}
+use Rattle.dom_semantics.specs.Changes.{laid, starts, copied, with_children}
 use Rattle.dom_tree.specs.Copies.{parents_laid, parents_of_copies}
 
 pub laid-step : (lay : ℕ → ℕ → List Node) (a b : ℕ) (old new whole : List Node) (xs : List ℕ) (i : ℕ) → i < length xs → old ++ laid lay a (drop i xs) ≡ whole → new ≡ old ++ lay a (get_or xs i 0) → b ≡ a + length (lay a (get_or xs i 0)) → new ++ laid lay b (drop (i + 1) xs) ≡ whole

@@ -3,8 +3,8 @@ use Rattle.std.proofs.Common.{◌≡◌, ◌≢◌, ◌+◌, ◌-◌, ◌<◌, �
 use Rattle.std.specs.List.{flat_map}
 use Prim.Native.Nat.{zero, suc}
 use Rattle.door.specs.declared.values.Actor.{Actor}
-use Rattle.door.specs.Forest.{Forest, Node, in_order, children_of}
-use Rattle.door.specs.Changes.{laid, copied}
+use Rattle.dom_semantics.specs.Forest.{Forest, Node, in_order, children_of}
+use Rattle.dom_semantics.specs.Changes.{laid, copied}
 use Rattle.dom_tree.specs.Copies.{parents_laid, parents_of_copies}
 use Rattle.dom_tree.proofs.Gathered.{flat_map-more}
 

@@ -10,7 +10,7 @@ use Rattle.base_text.specs.Scalars.{utf8_len}
 use Rattle.base_text.specs.declared.text.TextFault.{TextFault}
 use Rattle.base_text.specs.declared.text.TextFault.TheVariants.{TooLong}
 use Rattle.base_text.specs.declared.text.TheConstants.{TEXT_LIMIT}
-use Rattle.door.specs.Forest.{Forest, Form, form_at, children_of, own_text, in_order, descendant_text, DEPTH_LIMIT, takes_children, text_in, text_of, Root, Tagged, Written, Noted}
+use Rattle.dom_semantics.specs.Forest.{Forest, Form, form_at, children_of, own_text, in_order, descendant_text, DEPTH_LIMIT, takes_children, text_in, text_of, Root, Tagged, Written, Noted}
 use Rattle.dom_tree.specs.Texts.{texts_in, Gathers, FitsText}
 
 abbrev err_of : TextFault → Result (List ℕ) TextFault

@@ -6,7 +6,7 @@ use Prim.Native.Nat.{zero, suc}
 use Rattle.std.proofs.lemmas.Bool.{eq-eqb}
 use Rattle.std.proofs.lemmas.List.{at_drop_more, at_drop_all}
 use Rattle.std.proofs.lemmas.List.Folds.{list_any_at}
-use Rattle.door.specs.Forest.{Forest, has_levels, children_of, is_child, is_among}
+use Rattle.dom_semantics.specs.Forest.{Forest, has_levels, children_of, is_child, is_among}
 
 pub has_levels-more : (levels : ℕ) (f : Forest) (n : ℕ) → levels ≢ 0 → has_levels levels f n ≡ list_all (λ child. has_levels (levels - 1) f child) (children_of f n)
 has_levels-more zero f n ne = absurd (ne refl)

@@ -8,10 +8,10 @@ use Rattle.std.proofs.lemmas.List.Sums.{fails_before_first}
 use Rattle.std.proofs.lemmas.List.Folds.{list_any_none, list_any_at}
 use Rattle.std.proofs.lemmas.List.Quantifiers.{position-Some}
 use Rattle.std.proofs.lemmas.Map.Views.{any-filter_same}
-use Rattle.door.specs.Forest.{is_among, are_different, attribute_in, after_in}
+use Rattle.dom_semantics.specs.Forest.{is_among, are_different, attribute_in, after_in}
 use Rattle.dom_tree.specs.Places.{is_named}
 use Rattle.dom_tree.proofs.Parents.{cases_option}
-use Rattle.door.specs.Changes.{without, placed, before_child, set_in}
+use Rattle.dom_semantics.specs.Changes.{without, placed, before_child, set_in}
 
 -- where no position is found, none passes
 pub position_none : {X : Type 0} (p : X → Bool) (xs : List X) → position p xs ≡ None → All (λ x. p x ≡ false) xs

@@ -6,8 +6,8 @@ use Rattle.std.proofs.lemmas.Bool.{cases_eq, cases_Bool, both_ways, false≢true
 use Rattle.std.proofs.lemmas.List.{get_or-set_same, get_or-set_other, length-set}
 use Prim.Native.Nat.{zero, suc}
 use Rattle.door.specs.declared.values.Actor.{Actor}
-use Rattle.door.specs.Forest.{Node, Forest, IsForest, node_at, form_at, children_of, is_child, is_among, is_document, parent_of, up_from, ancestors_of, depth_of, is_inclusive_ancestor, has_levels, DEPTH_LIMIT, are_different}
-use Rattle.door.specs.Changes.{removed, without, moved, placed}
+use Rattle.dom_semantics.specs.Forest.{Node, Forest, IsForest, node_at, form_at, children_of, is_child, is_among, is_document, parent_of, up_from, ancestors_of, depth_of, is_inclusive_ancestor, has_levels, DEPTH_LIMIT, are_different}
+use Rattle.dom_semantics.specs.Changes.{removed, without, moved, placed}
 use Rattle.dom_tree.specs.Tree.{IsTree}
 use Rattle.dom_tree.proofs.Lists.{is_among-without, is_among-placed, are_different-without, are_different-placed, eqb_sym}
 use Rattle.dom_tree.proofs.NodeLemmas.{node_at-removed, node_at-set_same, node_at-set_other, length-removed, made_by-removed, made_by-set}

@@ -5,8 +5,8 @@ use Prim.Native.Nat.{zero, suc}
 use Rattle.std.proofs.lemmas.List.{get_or-set_same, get_or-set_other, ext_get_or, length-map, get_or_read}
 use Rattle.std.proofs.lemmas.List.Sums.{sum_by-append}
 use Rattle.door.specs.declared.values.Actor.{Actor}
-use Rattle.door.specs.Forest.{Node, Forest, no_node, node_at, children_of, made_by}
-use Rattle.door.specs.Changes.{removed, without}
+use Rattle.dom_semantics.specs.Forest.{Node, Forest, no_node, node_at, children_of, made_by}
+use Rattle.dom_semantics.specs.Changes.{removed, without}
 
 -- two forests with the same nodes are one
 pub same_nodes : (f g : Forest) → length f ≡ length g → ((n : ℕ) → node_at f n ≡ node_at g n) → f ≡ g

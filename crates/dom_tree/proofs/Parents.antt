@@ -4,7 +4,7 @@ use Rattle.std.specs.List.{position_from}
 use Prim.Native.Nat.{zero, suc}
 use Rattle.std.proofs.lemmas.Bool.{false≢true, cases_Bool, both_ways, cases_lt}
 use Rattle.std.proofs.lemmas.List.{get_or_past}
-use Rattle.door.specs.Forest.{Node, Forest, IsForest, no_node, is_among, is_child, children_of, parent_of, up_from, ancestors_of, depth_of, DEPTH_LIMIT, is_document, form_at, are_different}
+use Rattle.dom_semantics.specs.Forest.{Node, Forest, IsForest, no_node, is_among, is_child, children_of, parent_of, up_from, ancestors_of, depth_of, DEPTH_LIMIT, is_document, form_at, are_different}
 
 abbrev has : ℕ → Node → Bool
 has c node = is_among c node.children

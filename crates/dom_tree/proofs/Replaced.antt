@@ -7,8 +7,8 @@ use Rattle.std.proofs.lemmas.List.Folds.{list_any_more}
 use Prim.Native.Nat.{zero, suc}
 use Rattle.std.specs.List.{list_all}
 use Rattle.door.specs.declared.values.Actor.{Actor}
-use Rattle.door.specs.Forest.{Node, Forest, IsForest, Written, new_node, node_at, form_at, children_of, is_child, is_among, is_document, parent_of, up_from, ancestors_of, depth_of, has_levels, DEPTH_LIMIT, are_different}
-use Rattle.door.specs.Changes.{removed, moved, with_children, created}
+use Rattle.dom_semantics.specs.Forest.{Node, Forest, IsForest, Written, new_node, node_at, form_at, children_of, is_child, is_among, is_document, parent_of, up_from, ancestors_of, depth_of, has_levels, DEPTH_LIMIT, are_different}
+use Rattle.dom_semantics.specs.Changes.{removed, moved, with_children, created}
 use Rattle.dom_tree.specs.Counts.{IsRaised}
 use Rattle.dom_tree.specs.Tree.{IsTree}
 use Rattle.dom_tree.proofs.Moves.{CanMove, tree-moved}

@@ -2,8 +2,8 @@
 use Rattle.std.proofs.Common.{◌≡◌, ◌+◌, ℕ, List, [], ◌∷◌, length, refl, ap, sym, ◌∙◌, arith, Option, ⊎_elim}
 use Rattle.std.specs.Option.{option_map_or}
 use Prim.Native.Nat.{zero, suc}
-use Rattle.door.specs.Forest.{Forest, parent_of, up_from, is_among, is_inclusive_ancestor, depth_of, DEPTH_LIMIT}
-use Rattle.dom_tree.specs.Above.{up_by, AreKnown}
+use Rattle.dom_semantics.specs.Forest.{Forest, parent_of, up_from, is_among, is_inclusive_ancestor, depth_of, DEPTH_LIMIT}
+use Rattle.dom_tree.specs.Ancestors.{up_by, AreKnown}
 use Rattle.dom_tree.specs.Tree.{AreParents}
 use Rattle.dom_tree.proofs.Parents.{parent_of-child, child-within, cases_option, up_from-some, up_from-none}
 

@@ -2,8 +2,8 @@
 use Rattle.std.proofs.Common.{◌≡◌, ◌≢◌, ◌<◌, ℕ, false, List, length, ap, sym, ◌∙◌, arith, Option, Some, None, ⊎_elim, subst}
 use Rattle.std.proofs.lemmas.Bool.{cases_eq, false_from_ne_true}
 use Rattle.std.proofs.lemmas.List.{length-set}
-use Rattle.door.specs.Forest.{Node, Forest, IsForest, node_at, children_of, is_child, parent_of}
-use Rattle.door.specs.Changes.{removed, without, moved, placed, with_children}
+use Rattle.dom_semantics.specs.Forest.{Node, Forest, IsForest, node_at, children_of, is_child, parent_of}
+use Rattle.dom_semantics.specs.Changes.{removed, without, moved, placed, with_children}
 use Rattle.dom_tree.proofs.Lists.{without_none}
 use Rattle.dom_tree.proofs.NodeLemmas.{same_nodes, node_at-removed, node_at-set_same, node_at-set_other, length-removed}
 use Rattle.dom_tree.proofs.Parents.{own_parents, parent_of-none, some_same}

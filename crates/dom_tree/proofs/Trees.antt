@@ -5,8 +5,8 @@ use Rattle.std.proofs.lemmas.Bool.{cases_eq, both_ways}
 use Rattle.std.proofs.lemmas.List.{length_push, length-set, get_or_past}
 use Prim.Native.Nat.{zero, suc}
 use Rattle.door.specs.declared.values.Actor.{Actor}
-use Rattle.door.specs.Forest.{Node, Forest, IsForest, Form, Root, Tagged, Written, Noted, no_node, new_node, node_at, form_at, children_of, is_among, is_document, made_by, parent_of, depth_of, are_different}
-use Rattle.door.specs.Changes.{created}
+use Rattle.dom_semantics.specs.Forest.{Node, Forest, IsForest, Form, Root, Tagged, Written, Noted, no_node, new_node, node_at, form_at, children_of, is_among, is_document, made_by, parent_of, depth_of, are_different}
+use Rattle.dom_semantics.specs.Changes.{created}
 use Rattle.dom_tree.specs.Counts.{count_in, IsRaised}
 use Rattle.dom_tree.specs.Forms.{form_of, data_in}
 use Rattle.dom_tree.specs.declared.form.NodeForm.{NodeForm}

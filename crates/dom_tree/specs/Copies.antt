@@ -1,7 +1,7 @@
 -- The parents of copies, as the tree keeps them.
 use Rattle.std.specs.Prelude.{◌+◌, ℕ, List, [], ◌∷◌, ◌++◌, length, Option, Some}
 use Prim.Native.Nat.{zero, suc}
-use Rattle.door.specs.Forest.{Forest, children_of}
+use Rattle.dom_semantics.specs.Forest.{Forest, children_of}
 
 -- the parents of what is laid for each of these numbers, one after another from a place on
 abbrev pub parents_laid : (ℕ → ℕ → List (Option ℕ)) → ℕ → List ℕ → List (Option ℕ)

@@ -1,7 +1,7 @@
--- The forms of nodes as `door` has them.
+-- The forms of nodes as `dom_semantics` has them.
 use Rattle.std.specs.Prelude.{ℕ, Bool, true, false, List, Option, Some, None}
 use denote.Ref.{Bor}
-use Rattle.door.specs.Forest.{Form, Root, Tagged, Written, Noted}
+use Rattle.dom_semantics.specs.Forest.{Form, Root, Tagged, Written, Noted}
 use Rattle.dom_tree.specs.declared.form.NodeForm.{NodeForm}
 use Rattle.dom_tree.specs.declared.form.NodeForm.TheVariants.{Element, Str, Comment}
 

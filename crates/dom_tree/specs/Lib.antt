@@ -1,4 +1,4 @@
-pub mod Above
+pub mod Ancestors
 pub mod Copies
 pub mod Counts
 pub mod Forms

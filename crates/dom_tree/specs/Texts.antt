@@ -6,7 +6,7 @@ use Rattle.base_text.specs.declared.text.TextFault.{TextFault}
 use Rattle.base_text.specs.declared.text.TextFault.TheVariants.{TooLong}
 use Rattle.std.specs.List.{flat_map}
 use Prim.Native.Nat.{zero, suc}
-use Rattle.door.specs.Forest.{Node, form_at, children_of, own_text}
+use Rattle.dom_semantics.specs.Forest.{Node, form_at, children_of, own_text}
 
 -- the texts of a node and all below it, for so many levels
 abbrev pub texts_in : ℕ → List Node → ℕ → List ℕ

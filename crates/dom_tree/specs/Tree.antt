@@ -1,7 +1,7 @@
 -- What holds of a tree as it is kept: its nodes are a forest, and parents and counts are those of the nodes.
 use Rattle.std.specs.Prelude.{◌≡◌, ◌<◌, ◌^◌, ℕ, List, Option, None, length, slice_index_or}
 use Rattle.door.specs.declared.values.Actor.{Actor}
-use Rattle.door.specs.Forest.{Node, IsForest, parent_of, made_by}
+use Rattle.dom_semantics.specs.Forest.{Node, IsForest, parent_of, made_by}
 use Rattle.dom_tree.specs.Counts.{count_in}
 
 pub record IsTree (f : List Node) (above : List (Option ℕ)) (tally : List (Actor × ℕ)) : Type 0 where

@@ -1,8 +1,8 @@
 //! Attributes in order, by name and value.
 
 ghost use Rattle.std.specs.Prelude.{◌≡◌, IfOk, OnOk, OnErr, position};
-ghost use Rattle.door.specs.Forest.{has_name};
-ghost use Rattle.door.specs.Changes.{set_in, dropped_from};
+ghost use Rattle.dom_semantics.specs.Forest.{has_name};
+ghost use Rattle.dom_semantics.specs.Changes.{set_in, dropped_from};
 ghost use Rattle.dom_tree.specs.Places.{is_named};
 
 use base_text::{Mem, Text};

@@ -1,7 +1,7 @@
 //! Making nodes, moving them and taking them out (DOM, Mutation algorithms).
 
 ghost use Rattle.std.specs.Prelude.{◌≡◌, ◌<◌, ◌^◌, length, IfOk, OnOk, OnErr};
-ghost use Rattle.door.specs.Changes.{created, create_refusal, inserted, insert_refusal, removed, remove_refusal};
+ghost use Rattle.dom_semantics.specs.Changes.{created, create_refusal, inserted, insert_refusal, removed, remove_refusal};
 ghost use Rattle.dom_tree.specs.Forms.{form_of};
 ghost use Rattle.dom_tree.specs.Ids.{number_of};
 ghost use Rattle.dom_tree.specs.Refused.{Refuses, NeedsNone};
@@ -10,15 +10,15 @@ use crate::counts::count_of;
 use crate::form::{NodeForm, NodeId, TreeFault};
 use crate::inserts::{check_insert, has_child, is_itself, number_of};
 use crate::limits::node_limit;
-use crate::nodes::{add_node, move_node, remove_node};
-use crate::stored::Stored;
+use crate::node::Stored;
+use crate::node_changes::{add_node, move_node, remove_node};
 use crate::tree::Tree;
 use door::Actor;
 
 impl Tree {
     /// Makes a node of a maker, which has no parent and no children, and answers the next number.
     ///
-    /// `NodeLimit` exactly where the maker has 100,000 nodes. A call that is refused changes nothing.
+    /// `NodeLimit` exactly where the maker has `NODE_LIMIT` nodes. A call that is refused changes nothing.
     pub fn create(&mut self, maker: Actor, form: NodeForm) -> Result<NodeId, TreeFault>
         requires { length self.old < 2 ^ 31 }
         ensures id { IfOk result (λ id. id.0 ≡ length self.old) }
@@ -48,7 +48,7 @@ impl Tree {
     /// parent or above it; `NotFound` exactly where `before` isn't a child of the parent; `Hierarchy`
     /// exactly where the node is the document, or the parent is the document and the node is a text, or
     /// an element while the document has an element as a child, itself included; `TooDeep` exactly where
-    /// a node would be over 256 steps below its root. A call that is refused changes nothing.
+    /// a node would be over `DEPTH_LIMIT` steps below its root. A call that is refused changes nothing.
     pub fn insert(
         &mut self,
         parent: NodeId,

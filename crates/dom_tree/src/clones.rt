@@ -1,8 +1,8 @@
 //! Copies of nodes (DOM, Interface Node, cloneNode).
 
 ghost use Rattle.std.specs.Prelude.{◌≡◌, ◌<◌, ◌≤◌, ◌+◌, ◌^◌, length, nat_le, if◌then◌else◌, IfOk, OnOk, OnErr};
-ghost use Rattle.door.specs.Forest.{made_by, tree_order, NODE_LIMIT};
-ghost use Rattle.door.specs.Changes.{cloned, cloned_alone, cloned_deep, clone_refusal};
+ghost use Rattle.dom_semantics.specs.Forest.{made_by, tree_order, NODE_LIMIT};
+ghost use Rattle.dom_semantics.specs.Changes.{cloned, cloned_alone, cloned_deep, clone_refusal};
 ghost use Rattle.dom_tree.specs.Refused.{Refuses};
 
 use crate::copies::{Copies, copy_below};
@@ -10,7 +10,7 @@ use crate::counts::count_of;
 use crate::form::{NodeId, TreeFault};
 use crate::levels::room_left;
 use crate::limits::{depth_limit, node_limit};
-use crate::nodes::{add_node, add_nodes};
+use crate::node_changes::{add_node, add_nodes};
 use crate::tree::Tree;
 use base_text::Mem;
 use door::Actor;
@@ -20,7 +20,7 @@ impl Tree {
     /// clone a node). The copies get the next numbers in tree order and belong to the maker; the first,
     /// whose number is answered, has no parent.
     ///
-    /// `NodeLimit` exactly where the maker would have over 100,000 nodes. A call that is refused changes
+    /// `NodeLimit` exactly where the maker would have over `NODE_LIMIT` nodes. A call that is refused changes
     /// nothing, also where no memory is found.
     pub fn clone_node(&mut self, maker: Actor, n: NodeId, deep: bool) -> Result<NodeId, TreeFault>
         requires known { n.0 < length self.old }

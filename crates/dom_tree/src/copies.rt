@@ -2,13 +2,13 @@
 //! node).
 
 ghost use Rattle.std.specs.Prelude.{◌≡◌, ◌<◌, ◌+◌, ◌^◌, [], ◌∷◌, ◌++◌, length, OnOk};
-ghost use Rattle.door.specs.Forest.{in_order};
-ghost use Rattle.door.specs.Changes.{copied};
-ghost use Rattle.dom_tree.specs.Above.{AreNodes};
+ghost use Rattle.dom_semantics.specs.Forest.{in_order};
+ghost use Rattle.dom_semantics.specs.Changes.{copied};
+ghost use Rattle.dom_tree.specs.Ancestors.{AreNodes};
 ghost use Rattle.dom_tree.specs.Copies.{parents_of_copies};
 
-use crate::nodes::set_children;
-use crate::stored::Stored;
+use crate::node::Stored;
+use crate::node_changes::set_children;
 use base_text::Mem;
 use door::Actor;
 use std::alloc::Global;

@@ -1,19 +1,19 @@
 //! Whether a node may stand in a place (DOM, ensure pre-insert validity).
 
 ghost use Rattle.std.specs.Prelude.{◌≡◌, ◌<◌, ℕ, true, length, nat_lt, OnOk};
-ghost use Rattle.door.specs.Forest.{IsForest, is_among, is_child, is_element, form_at, depth_of, DEPTH_LIMIT};
-ghost use Rattle.door.specs.Changes.{insert_refusal, is_itself, is_no_parent, is_place, is_misfit, is_too_deep};
+ghost use Rattle.dom_semantics.specs.Forest.{IsForest, is_among, is_child, is_element, form_at, depth_of, DEPTH_LIMIT};
+ghost use Rattle.dom_semantics.specs.Changes.{insert_refusal, is_itself, cannot_parent, is_child_of_parent, violates_document, is_too_deep};
 ghost use Rattle.std.specs.List.{list_any};
 ghost use Rattle.dom_tree.specs.Ids.{number_of};
 ghost use Rattle.dom_tree.specs.Refused.{Refuses};
 ghost use Rattle.dom_tree.specs.Tree.{AreParents};
 
-use crate::above::{is_above, steps_up};
+use crate::ancestors::{is_above, steps_up};
 use crate::form::{NodeId, TreeFault};
 use crate::levels::fits_levels;
 use crate::limits::depth_limit;
+use crate::node::Stored;
 use crate::numbers::has_number;
-use crate::stored::Stored;
 
 /// The first refusal of an insertion, if there is one.
 pub fn check_insert(
@@ -30,13 +30,13 @@ pub fn check_insert(
     ensures ok { OnOk result (insert_refusal nodes.now parent node before ≡ None) }
     ensures refused { Refuses result (insert_refusal nodes.now parent node before) }
 {
-    if is_no_parent(nodes, parents, parent, node) {
+    if cannot_parent(nodes, parents, parent, node) {
         return Err(TreeFault::Hierarchy);
     }
-    if !is_place(nodes, parent, before) {
+    if !is_child_of_parent(nodes, parent, before) {
         return Err(TreeFault::NotFound);
     }
-    if is_misfit(nodes, parent, node) {
+    if violates_document(nodes, parent, node) {
         return Err(TreeFault::Hierarchy);
     }
     if is_too_deep(nodes, parents, parent, node) {
@@ -46,20 +46,20 @@ pub fn check_insert(
 }
 
 /// Whether the parent has no children at all, or the node is the parent or above it.
-fn is_no_parent(nodes: &[Stored], parents: &[Option<u32>], parent: u32, node: u32) -> bool
+fn cannot_parent(nodes: &[Stored], parents: &[Option<u32>], parent: u32, node: u32) -> bool
     requires forest { IsForest nodes.now }
     requires parents { AreParents nodes.now parents.now }
     requires parent { parent < length nodes.now }
-    ensures { result ≡ is_no_parent nodes.now parent node }
+    ensures { result ≡ cannot_parent nodes.now parent node }
 {
     let above = is_above(parents, node, parent, depth_limit() + 1);
     !nodes[parent as usize].takes_children() || above
 }
 
 /// Whether the child to stand before, if any, is one of the parent.
-fn is_place(nodes: &[Stored], parent: u32, before: Option<u32>) -> bool
+fn is_child_of_parent(nodes: &[Stored], parent: u32, before: Option<u32>) -> bool
     requires { parent < length nodes.now }
-    ensures { result ≡ is_place nodes.now parent before }
+    ensures { result ≡ is_child_of_parent nodes.now parent before }
 {
     match before {
         Some(child) => has_child(nodes, parent, child),
@@ -76,11 +76,11 @@ pub fn has_child(nodes: &[Stored], parent: u32, child: u32) -> bool
 }
 
 /// Whether the node is the document, or one that the document can't have.
-fn is_misfit(nodes: &[Stored], parent: u32, node: u32) -> bool
+fn violates_document(nodes: &[Stored], parent: u32, node: u32) -> bool
     requires forest { IsForest nodes.now }
     requires parent { parent < length nodes.now }
     requires node { node < length nodes.now }
-    ensures { result ≡ is_misfit nodes.now parent node }
+    ensures { result ≡ violates_document nodes.now parent node }
 {
     let child = &nodes[node as usize];
     let above = &nodes[parent as usize];

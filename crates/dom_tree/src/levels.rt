@@ -1,10 +1,10 @@
 //! How many levels the tree under a node has, and how many nodes.
 
 ghost use Rattle.std.specs.Prelude.{◌≡◌, ◌<◌, ◌+◌, length, MatchOption};
-ghost use Rattle.door.specs.Forest.{has_levels, in_order};
-ghost use Rattle.dom_tree.specs.Above.{AreNodes};
+ghost use Rattle.dom_semantics.specs.Forest.{has_levels, in_order};
+ghost use Rattle.dom_tree.specs.Ancestors.{AreNodes};
 
-use crate::stored::Stored;
+use crate::node::Stored;
 
 /// Whether the tree under a node, with itself, has at most so many levels.
 pub fn fits_levels(nodes: &[Stored], n: u32, levels: u32) -> bool

@@ -1,8 +1,9 @@
-//! The document as a tree of nodes that are named by number, which contracts see as the forest of `door`.
+//! The document as a tree of nodes that are named by number, which contracts see as the forest of `dom_semantics`.
 #![tactic(auto)]
 
-mod above;
+mod ancestors;
 mod attributes;
+mod attributes_api;
 mod changes;
 mod clones;
 mod copies;
@@ -11,15 +12,15 @@ mod form;
 mod inserts;
 mod levels;
 mod limits;
-mod named;
-mod nodes;
+mod node;
+mod node_changes;
 mod numbers;
-mod reads;
-mod stored;
 #[cfg(test)]
 mod tests;
+mod text_content;
 mod texts;
 mod tree;
 
 pub use form::{NodeForm, NodeId, TreeFault};
+pub use limits::TREE_LEVELS;
 pub use tree::Tree;

@@ -1,8 +1,8 @@
 //! Numbers of nodes in order, with one more or one less among them.
 
 ghost use Rattle.std.specs.Prelude.{◌≡◌, ◌<◌, ◌≤◌, ℕ, true, length, insert, slice_get, IsOk, OnOk, OnErr, position, nat_eq, vec_len, vec_capacity};
-ghost use Rattle.door.specs.Forest.{is_among, after_in};
-ghost use Rattle.door.specs.Changes.{without, placed, before_child};
+ghost use Rattle.dom_semantics.specs.Forest.{is_among, after_in};
+ghost use Rattle.dom_semantics.specs.Changes.{without, placed, before_child};
 
 use base_text::Mem;
 

@@ -1,16 +1,16 @@
 //! The text of a node (DOM, get and set text content).
 
 ghost use Rattle.std.specs.Prelude.{◌≡◌, ◌<◌, ◌^◌, ◌∷◌, [], ℕ, true, false, length, IsTrue, OnOk, OnErr, IfOk, slice_index_or, if◌then◌else◌};
-ghost use Rattle.door.specs.Forest.{is_among, is_element, takes_children, form_at, depth_of, made_by, Written, DEPTH_LIMIT, NODE_LIMIT};
-ghost use Rattle.door.specs.Changes.{with_text, text_refusal, with_children, created, is_empty};
+ghost use Rattle.dom_semantics.specs.Forest.{is_among, is_element, takes_children, form_at, depth_of, made_by, Written, DEPTH_LIMIT, NODE_LIMIT};
+ghost use Rattle.dom_semantics.specs.Changes.{with_text, text_refusal, with_children, created, is_empty};
 ghost use Rattle.dom_tree.specs.Refused.{Refuses};
 
 use crate::counts::count_of;
 use crate::form::{NodeForm, NodeId, TreeFault};
 use crate::inserts::has_room_below;
 use crate::limits::node_limit;
-use crate::nodes::{add_node, set_children, set_data};
-use crate::stored::Stored;
+use crate::node::Stored;
+use crate::node_changes::{add_node, set_children, set_data};
 use crate::tree::Tree;
 use base_text::{Mem, Text};
 use door::Actor;
@@ -20,8 +20,8 @@ impl Tree {
     /// Replaces the data of a text or a comment, or the children of an element by one new text of the
     /// maker, and by none where the text is empty. The children that were are roots then.
     ///
-    /// Where a text has to be made: `NodeLimit` exactly where the maker has 100,000 nodes, and then
-    /// `TooDeep` exactly where the text would be over 256 steps below its root. A call that is refused
+    /// Where a text has to be made: `NodeLimit` exactly where the maker has `NODE_LIMIT` nodes, and then
+    /// `TooDeep` exactly where the text would be over `DEPTH_LIMIT` steps below its root. A call that is refused
     /// changes nothing.
     pub fn set_text(&mut self, maker: Actor, node: NodeId, t: &Text) -> Result<(), TreeFault>
         requires known { node.0 < length self.old }

@@ -2,13 +2,13 @@
 
 ghost use Rattle.std.specs.Prelude.{◌≡◌, ◌↔◌, ◌<◌, ◌^◌, IsTrue, IsNone, IfOk, length, slice_get, All};
 ghost use Rattle.std.specs.Option.{option_copied};
-ghost use Rattle.door.specs.Forest.{IsForest, new_forest, form_at, attributes_of, attribute_of, children_of, parent_of, first_child_of, next_sibling_of, is_element};
+ghost use Rattle.dom_semantics.specs.Forest.{IsForest, new_forest, form_at, attributes_of, attribute_of, children_of, parent_of, first_child_of, next_sibling_of, is_element};
 ghost use Rattle.dom_tree.specs.Forms.{form_or_document, pair_copied};
 ghost use Rattle.dom_tree.specs.Ids.{number_of};
 
 use crate::form::{NodeForm, NodeId};
+use crate::node::Stored;
 use crate::numbers::number_after;
-use crate::stored::Stored;
 use base_text::{Mem, Text};
 use door::Actor;
 use std::alloc::Global;
@@ -28,7 +28,7 @@ pub struct Tree {
 
 impl Model for Tree {
     ghost use Rattle.std.specs.Prelude.{List};
-    ghost use Rattle.door.specs.Forest.{Node};
+    ghost use Rattle.dom_semantics.specs.Forest.{Node};
 
     ghost Value = { List Node };
 

@@ -1,5 +1,3 @@
-pub mod Changes
-pub mod Forest
 pub mod Looks
 pub mod Record
 pub mod SameMarks

@@ -4,6 +4,7 @@
 
 mod grants;
 mod journal;
+mod limits;
 mod lists;
 mod marks;
 mod members;
@@ -14,12 +15,17 @@ mod zones;
 
 pub use grants::GrantSet;
 pub use journal::{Journal, JournalFault};
+pub use limits::{
+    ADDRESS_LIMIT, CELL_LIMIT, DEPTH_LIMIT, DISPATCH_LIMIT, FUEL_LIMIT, LEVEL_LIMIT,
+    LISTENER_LIMIT, MARK_LIMIT, NESTED_DISPATCH_LIMIT, NODE_LIMIT, PAGE_LIMIT, TASK_LIMIT,
+    TIMER_LIMIT, USERSCRIPT_LIMIT,
+};
 pub use lists::{List, Texts, Values};
 pub use marks::{Entry, Mark, Outcome, StopKind, Task};
 pub use members::Member;
 pub use requests::{Answer, ErrorKind, ReachOp, Request, ServeOp};
 pub use same::{Same, is_same, share};
-pub use values::{Actor, Kind, Look, Shape, Thing, Value};
+pub use values::{Actor, DOCUMENT, HOST, Kind, Look, PAGE, Shape, Thing, Value, WINDOW};
 pub use zones::{Zone, looks_are_never_waived};
 
 #[cfg(test)]

@@ -7,6 +7,12 @@ use base_text::Text;
 #[derive(Clone, Copy, Debug, PartialEq, Eq, PartialOrd, Ord)]
 pub struct Actor(pub u32);
 
+/// The host, which builds the page and dispatches its own events.
+pub const HOST: Actor = Actor(0);
+
+/// The page: all of its scripts are one actor.
+pub const PAGE: Actor = Actor(1);
+
 /// What a thing of the document is.
 #[derive(Clone, Copy, Debug, PartialEq, Eq, PartialOrd, Ord)]
 pub enum Kind {
@@ -31,6 +37,18 @@ pub struct Thing {
     pub kind: Kind,
     pub number: u32,
 }
+
+/// The window.
+pub const WINDOW: Thing = Thing {
+    kind: Kind::Window,
+    number: 0,
+};
+
+/// The document.
+pub const DOCUMENT: Thing = Thing {
+    kind: Kind::Document,
+    number: 0,
+};
 
 /// What kind of object a cell of a script is.
 #[derive(Clone, Copy, Debug, PartialEq, Eq)]

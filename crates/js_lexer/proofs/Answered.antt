@@ -11,8 +11,9 @@ use Rattle.js_syntax.specs.declared.token_fault.LexKind.{LexKind}
 use Rattle.js_syntax.specs.TokenScalars.{Scalars}
 use Rattle.js_syntax.specs.Tokens.{AreTokens}
 use Rattle.js_syntax.specs.TokenFaults.{IsFault}
-use Rattle.js_lexer.specs.Answers.{Tells, IfFault, OkOrMemory, FaultOrMemory}
-use Rattle.js_lexer.specs.Pieces.{Read, read_from}
+use Rattle.base_text.specs.Answers.{IfFault, OkOrMemory, FaultOrMemory}
+use Rattle.js_lexer.specs.AnswersModel.{Tells}
+use Rattle.js_lexer.specs.TokenAtFrontModel.{Read, read_from}
 use Rattle.js_lexer.proofs.Cases.{le_refl}
 use Rattle.js_lexer.proofs.Whole.{ReadIs, read_is, read_again, fault_again}
 
@@ -63,9 +64,12 @@ only_answer text (Ok us) ts k a = both_tokens (whole_read text) us ts k (read_ag
 only_answer text (Err (memory.Fault f)) ts k a = never (whole_read text) ts (f.at, f.kind) (read_again (length text) 0 false text ts a (le_refl (length text))) k
 only_answer text (Err memory.NoMemory) ts k a = tt
 
-pub first_answer : (text : Scalars) (r : Answer) (at : ℕ) (kind : LexKind) → Tells (whole_read text) r → IsFault text at kind → FaultOrMemory r at kind
+same_fault : (f : LexFault) (at : ℕ) (kind : LexKind) → (f.at ≡ at) × (f.kind ≡ kind) → f ≡ record { at = at; kind = kind }
+same_fault f at kind e = ap (λ (place : ℕ). record { at = place; kind = f.kind }) e.0 ∙ ap (λ (k : LexKind). record { at = at; kind = k }) e.1
+
+pub first_answer : (text : Scalars) (r : Answer) (at : ℕ) (kind : LexKind) → Tells (whole_read text) r → IsFault text at kind → FaultOrMemory r (record { at = at; kind = kind })
 first_answer text (Ok us) at kind k a = never (whole_read text) us (at, kind) k (fault_again (length text) 0 false text at kind a (le_refl (length text)))
-first_answer text (Err (memory.Fault f)) at kind k a = both_places (whole_read text) f.at at f.kind kind k (fault_again (length text) 0 false text at kind a (le_refl (length text)))
+first_answer text (Err (memory.Fault f)) at kind k a = same_fault f at kind (both_places (whole_read text) f.at at f.kind kind k (fault_again (length text) 0 false text at kind a (le_refl (length text))))
 first_answer text (Err memory.NoMemory) at kind k a = tt
 
 pub tells_of : (text scalars : Scalars) (r : Answer) → scalars ≡ text → Tells (whole_read scalars) r → Tells (whole_read text) r

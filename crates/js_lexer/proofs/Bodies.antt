@@ -8,9 +8,9 @@ use Rattle.base_text.specs.declared.text.TheConstants.{TEXT_LIMIT}
 use Rattle.js_syntax.specs.declared.token.TokenKind.TheVariants as kinds
 use Rattle.js_syntax.specs.declared.token_fault.LexKind.TheVariants.{TooLong}
 use Rattle.js_syntax.specs.TokenScalars.{Scalars}
-use Rattle.js_lexer.specs.Texts.{decode}
-use Rattle.js_lexer.specs.Pieces.{word_of, fault_of, decoded, body_decoded}
-use Rattle.js_lexer.specs.Answers.{IsDecoded}
+use Rattle.js_lexer.specs.StringLiteralsModel.{decode}
+use Rattle.js_lexer.specs.TokenAtFrontModel.{token_of, fault_of, decoded, body_decoded}
+use Rattle.js_lexer.specs.AnswersModel.{IsDecoded}
 use Rattle.js_lexer.proofs.Cases.{test_lt, when_false}
 
 over_cases : (a b : ℕ) (t : Bool) → nat_lt a b ≡ t → (a < b → ⊥) → t ≡ false
@@ -24,16 +24,16 @@ test_over : (a b : ℕ) → (a < b → ⊥) → nat_lt a b ≡ false
 test_over a b h = over_cases a b (nat_lt a b) refl h
 
 decoded_word : (quote : ℕ) (body rest value text left : Scalars) → value ≡ text → (length left == 0) ≡ true → nat_lt TEXT_LIMIT (utf8_len value) ≡ false
-    → decoded quote body rest value left ≡ word_of kinds.Str text rest
+    → decoded quote body rest value left ≡ token_of kinds.Str text rest
 decoded_word quote body rest value text [] e none short =
-    when_false (nat_lt TEXT_LIMIT (utf8_len value)) (fault_of 0 TooLong) (word_of kinds.Str value rest) (word_of kinds.Str text rest) short (ap (λ (v : Scalars). word_of kinds.Str v rest) e)
+    when_false (nat_lt TEXT_LIMIT (utf8_len value)) (fault_of 0 TooLong) (token_of kinds.Str value rest) (token_of kinds.Str text rest) short (ap (λ (v : Scalars). token_of kinds.Str v rest) e)
 decoded_word quote body rest value text (c ∷ cs) e none short = absurd (not_zero (length cs) none)
 
 same_len : (value : Scalars) (bytes : List ℕ) → encode_utf8_all value ≡ bytes → utf8_len value ≡ length bytes
 same_len value bytes e = ap length e
 
 pub body_word : (quote : ℕ) (body rest text left : Scalars) (bytes : List ℕ) → IsDecoded (decode (length body) body) bytes left → encode_utf8_all text ≡ bytes → (length left == 0) ≡ true
-    → (TEXT_LIMIT < length bytes → ⊥) → body_decoded quote body rest ≡ word_of kinds.Str text rest
+    → (TEXT_LIMIT < length bytes → ⊥) → body_decoded quote body rest ≡ token_of kinds.Str text rest
 unfolding body_decoded
 body_word quote body rest text left bytes k e none short =
     let d = decode (length body) body in

@@ -4,8 +4,8 @@ use Rattle.std.proofs.lemmas.Bool.Decides.{nat_tests}
 use Rattle.std.specs.Str.Parse.{digits_value}
 use Rattle.js_syntax.specs.TokenScalars.{Scalars, AreAll, NotNext, is_line_end, is_line_feed, is_decimal, is_hexadecimal, is_surrogate, is_high_surrogate, is_low_surrogate, paired}
 use Rattle.js_syntax.specs.TokenTexts.{control, is_none, is_own_escape, IsUnicode, four, braced, Escape, control_escape, null, byte, unicode, pair, line_end, return, return_and_line_feed, own}
-use Rattle.js_lexer.specs.Texts.{Given, Numbered, run_of, low_half, begins_unicode, second_half, unicode_given, byte_given, past_line_feed, begins_decimal, or_own, escape, one}
-use Rattle.js_lexer.specs.Texts as read
+use Rattle.js_lexer.specs.StringLiteralsModel.{Given, Numbered, run_of, low_half, begins_unicode, second_half, unicode_given, byte_given, past_line_feed, begins_decimal, or_own, escape, one}
+use Rattle.js_lexer.specs.StringLiteralsModel as read
 use Rattle.js_lexer.proofs.Cases.{same_scalar, cond_holds, both_left, both_right, not_both, when_false, when_true}
 use Rattle.js_lexer.proofs.HexRuns.{Counts, run_is, run_again, Unicodes, unicode_is, unicode_again}
 

@@ -3,11 +3,11 @@ use Rattle.std.proofs.Common.{◌≡◌, ℕ, Bool, true, false, not, ◌||◌, 
 use Rattle.std.proofs.lemmas.Bool.Decides.{nat_tests}
 use Rattle.js_syntax.specs.TokenScalars.{Scalars, NotNext, is_line_feed, is_quote}
 use Rattle.js_syntax.specs.TokenTexts.{is_plain, Within, nothing, plain, taken_up, return_taken_up, both_taken_up, IsCut, by_end, by_backslash, by_line_feed, by_return}
-use Rattle.js_lexer.specs.declared.texts.Taken.{Taken}
-use Rattle.js_lexer.specs.declared.texts.Taken.TheVariants.{Nothing, Scalar, LineFeed}
-use Rattle.js_lexer.specs.declared.texts.Next.{Next}
-use Rattle.js_lexer.specs.declared.texts.Next.TheVariants.{Ends, Breaks, GoesOn}
-use Rattle.js_lexer.specs.Texts.{free_step, step, stepped, after_text}
+use Rattle.js_lexer.specs.declared.string_literals.Taken.{Taken}
+use Rattle.js_lexer.specs.declared.string_literals.Taken.TheVariants.{Nothing, Scalar, LineFeed}
+use Rattle.js_lexer.specs.declared.string_literals.Next.{Next}
+use Rattle.js_lexer.specs.declared.string_literals.Next.TheVariants.{Ends, Breaks, GoesOn}
+use Rattle.js_lexer.specs.StringLiteralsModel.{free_step, step, stepped, after_text}
 use Rattle.js_lexer.proofs.Cases.{same_scalar, cond_holds, not_both, when_false, when_true}
 
 -- ---- again

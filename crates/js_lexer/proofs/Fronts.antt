@@ -5,7 +5,7 @@ use Rattle.std.proofs.lemmas.Bool.Decides.{nat_tests}
 use Rattle.std.proofs.lemmas.List.{length-append}
 use Rattle.js_syntax.specs.TokenScalars.{Scalars, AreAll, NotNext, is_line_end}
 use Rattle.js_syntax.specs.TokenSpelling.{closes_comment, HasNoClose, has_line_end}
-use Rattle.js_lexer.specs.Runs.{before, after, after_block}
+use Rattle.js_lexer.specs.RunsModel.{before, after, after_block}
 
 -- what stands before the rest
 pub before_is : (w rest : Scalars) → before (w ++ rest) rest ≡ w

@@ -11,8 +11,8 @@ use Rattle.std.specs.Str.Parse.{digits_value, AllDigits}
 use Rattle.js_syntax.specs.TokenScalars.{Scalars, AreAll, is_hexadecimal, is_surrogate, is_high_surrogate}
 use Rattle.js_syntax.specs.TokenTexts.{IsUnicode}
 use Rattle.js_syntax.specs.TokenTexts as spelled
-use Rattle.js_lexer.specs.Runs.{digits_from, too_wide}
-use Rattle.js_lexer.specs.Texts.{Numbered, past_brace, braced_of, braced, whole_run, run_of, bounded, begins_brace, unicode, second_half, unicode_given}
+use Rattle.js_lexer.specs.RunsModel.{digits_from, too_wide}
+use Rattle.js_lexer.specs.StringLiteralsModel.{Numbered, past_brace, braced_of, braced, whole_run, run_of, bounded, begins_brace, unicode, second_half, unicode_given}
 use Rattle.js_lexer.proofs.Cases.{same_scalar, test_le, le_test, cond_holds, both_left, both_right, not_both}
 use Rattle.js_lexer.proofs.Numerals.{digits_again, Digits, digits_is}
 

@@ -5,11 +5,11 @@ use Rattle.std.specs.Char.{is_ascii_alphabetic}
 use Rattle.unicode_ident.proofs.IdentLemmas.{is_xid_start-ascii}
 use Rattle.unicode_ident.proofs.Computing.{unicode_ident}
 use Rattle.js_syntax.specs.TokenScalars.{Scalars, is_white_space, is_line_end, is_name_start, is_name_part, is_decimal, is_quote}
-use Rattle.js_syntax.specs.TokenSpelling.{marks, IsIn, Numeral, zero_digit, digits, hexadecimal}
-use Rattle.js_lexer.specs.declared.texts.Taken.TheVariants.{Nothing}
-use Rattle.js_lexer.specs.Runs.{after, numeral}
-use Rattle.js_lexer.specs.Texts.{after_text}
-use Rattle.js_lexer.specs.Pieces.{gap_of, named, numbered, quoted, comment_or_mark, piece}
+use Rattle.js_syntax.specs.TokenSpelling.{punctuators, IsIn, Numeral, zero_digit, digits, hexadecimal}
+use Rattle.js_lexer.specs.declared.string_literals.Taken.TheVariants.{Nothing}
+use Rattle.js_lexer.specs.RunsModel.{after, numeral}
+use Rattle.js_lexer.specs.StringLiteralsModel.{after_text}
+use Rattle.js_lexer.specs.TokenAtFrontModel.{gap_of, named, numbered, quoted, comment_or_punctuator, at_front}
 use Rattle.js_lexer.proofs.Cases.{same_scalar, both_left, both_right, not_both, when_false, when_true}
 use Rattle.js_lexer.proofs.Escaped.{decimal_low, decimal_high}
 
@@ -32,7 +32,7 @@ record HasNoSpace (q : ℕ → Bool) : Type 0 where
   form_feed : q 0xC ≡ false
   space : q 0x20 ≡ false
   hard_space : q 0xA0 ≡ false
-  mark : q 0xFEFF ≡ false
+  punctuator : q 0xFEFF ≡ false
 
 record HasNoLineEnd (q : ℕ → Bool) : Type 0 where
   line_feed : q 0xA ≡ false
@@ -43,7 +43,7 @@ record HasNoLineEnd (q : ℕ → Bool) : Type 0 where
 no_space : (q : ℕ → Bool) (c : ℕ) → HasNoSpace q → q c ≡ true → is_white_space c ≡ false
 no_space q c k h =
     or_false (c == 0x9) _ (lacks q c 0x9 k.tab h) (or_false (c == 0xB) _ (lacks q c 0xB k.line_tab h) (or_false (c == 0xC) _ (lacks q c 0xC k.form_feed h)
-    (or_false (c == 0x20) _ (lacks q c 0x20 k.space h) (or_false (c == 0xA0) _ (lacks q c 0xA0 k.hard_space h) (lacks q c 0xFEFF k.mark h)))))
+    (or_false (c == 0x20) _ (lacks q c 0x20 k.space h) (or_false (c == 0xA0) _ (lacks q c 0xA0 k.hard_space h) (lacks q c 0xFEFF k.punctuator h)))))
 
 no_line_end : (q : ℕ → Bool) (c : ℕ) → HasNoLineEnd q → q c ≡ true → is_line_end c ≡ false
 no_line_end q c k h =
@@ -52,23 +52,23 @@ no_line_end q c k h =
 
 start_has_no_space : HasNoSpace is_name_start
 unfolding unicode_ident
-start_has_no_space = record { tab = refl; line_tab = refl; form_feed = refl; space = refl; hard_space = refl; mark = refl }
+start_has_no_space = record { tab = refl; line_tab = refl; form_feed = refl; space = refl; hard_space = refl; punctuator = refl }
 
 start_has_no_line_end : HasNoLineEnd is_name_start
 unfolding unicode_ident
 start_has_no_line_end = record { line_feed = refl; return_ = refl; line = refl; paragraph = refl }
 
 line_has_no_space : HasNoSpace is_line_end
-line_has_no_space = record { tab = refl; line_tab = refl; form_feed = refl; space = refl; hard_space = refl; mark = refl }
+line_has_no_space = record { tab = refl; line_tab = refl; form_feed = refl; space = refl; hard_space = refl; punctuator = refl }
 
 decimal_has_no_space : HasNoSpace is_decimal
-decimal_has_no_space = record { tab = refl; line_tab = refl; form_feed = refl; space = refl; hard_space = refl; mark = refl }
+decimal_has_no_space = record { tab = refl; line_tab = refl; form_feed = refl; space = refl; hard_space = refl; punctuator = refl }
 
 decimal_has_no_line_end : HasNoLineEnd is_decimal
 decimal_has_no_line_end = record { line_feed = refl; return_ = refl; line = refl; paragraph = refl }
 
 quote_has_no_space : HasNoSpace is_quote
-quote_has_no_space = record { tab = refl; line_tab = refl; form_feed = refl; space = refl; hard_space = refl; mark = refl }
+quote_has_no_space = record { tab = refl; line_tab = refl; form_feed = refl; space = refl; hard_space = refl; punctuator = refl }
 
 quote_has_no_line_end : HasNoLineEnd is_quote
 quote_has_no_line_end = record { line_feed = refl; return_ = refl; line = refl; paragraph = refl }
@@ -103,26 +103,26 @@ quote_no_start c h = quote_cases c (c == 34) refl h
 
 -- ---- which reader a scalar leads to
 
-pub at_space : (c : ℕ) (cs : Scalars) → is_white_space c ≡ true → piece (c ∷ cs) ≡ gap_of false cs
-unfolding piece
+pub at_space : (c : ℕ) (cs : Scalars) → is_white_space c ≡ true → at_front (c ∷ cs) ≡ gap_of false cs
+unfolding at_front
 at_space c cs h = when_true (is_white_space c) (gap_of false cs) _ (gap_of false cs) h refl
 
-pub at_line_end : (c : ℕ) (cs : Scalars) → is_line_end c ≡ true → piece (c ∷ cs) ≡ gap_of true cs
-unfolding piece
+pub at_line_end : (c : ℕ) (cs : Scalars) → is_line_end c ≡ true → at_front (c ∷ cs) ≡ gap_of true cs
+unfolding at_front
 at_line_end c cs h =
     when_false (is_white_space c) (gap_of false cs) _ (gap_of true cs) (no_space is_line_end c line_has_no_space h)
     (when_true (is_line_end c) (gap_of true cs) _ (gap_of true cs) h refl)
 
-pub at_name : (c : ℕ) (cs : Scalars) → is_name_start c ≡ true → piece (c ∷ cs) ≡ named (c ∷ cs) (after is_name_part cs)
-unfolding piece
+pub at_name : (c : ℕ) (cs : Scalars) → is_name_start c ≡ true → at_front (c ∷ cs) ≡ named (c ∷ cs) (after is_name_part cs)
+unfolding at_front
 at_name c cs h =
     let goal = named (c ∷ cs) (after is_name_part cs) in
     when_false (is_white_space c) (gap_of false cs) _ goal (no_space is_name_start c start_has_no_space h)
     (when_false (is_line_end c) (gap_of true cs) _ goal (no_line_end is_name_start c start_has_no_line_end h)
     (when_true (is_name_start c) goal _ goal h refl))
 
-pub at_number : (c : ℕ) (cs : Scalars) → is_decimal c ≡ true → piece (c ∷ cs) ≡ numbered (c ∷ cs) (numeral (c ∷ cs))
-unfolding piece
+pub at_number : (c : ℕ) (cs : Scalars) → is_decimal c ≡ true → at_front (c ∷ cs) ≡ numbered (c ∷ cs) (numeral (c ∷ cs))
+unfolding at_front
 at_number c cs h =
     let goal = numbered (c ∷ cs) (numeral (c ∷ cs)) in
     when_false (is_white_space c) (gap_of false cs) _ goal (no_space is_decimal c decimal_has_no_space h)
@@ -130,8 +130,8 @@ at_number c cs h =
     (when_false (is_name_start c) (named (c ∷ cs) (after is_name_part cs)) _ goal (decimal_no_start c h)
     (when_true (is_decimal c) goal _ goal h refl)))
 
-pub at_quote : (c : ℕ) (cs : Scalars) → is_quote c ≡ true → piece (c ∷ cs) ≡ quoted c cs (after_text c Nothing cs)
-unfolding piece
+pub at_quote : (c : ℕ) (cs : Scalars) → is_quote c ≡ true → at_front (c ∷ cs) ≡ quoted c cs (after_text c Nothing cs)
+unfolding at_front
 at_quote c cs h =
     let goal = quoted c cs (after_text c Nothing cs) in
     let others = quote_no_start c h in
@@ -141,7 +141,7 @@ at_quote c cs h =
     (when_false (is_decimal c) (numbered (c ∷ cs) (numeral (c ∷ cs))) _ goal others.no_number
     (when_true (is_quote c) goal _ goal h refl))))
 
--- nothing but a comment or a mark begins with this scalar
+-- nothing but a comment or a punctuator begins with this scalar
 pub record IsOther (c : ℕ) : Type 0 where
   pub no_space : is_white_space c ≡ false
   pub no_line : is_line_end c ≡ false
@@ -149,17 +149,17 @@ pub record IsOther (c : ℕ) : Type 0 where
   pub no_number : is_decimal c ≡ false
   pub no_text : is_quote c ≡ false
 
-pub at_other : (c : ℕ) (cs : Scalars) → IsOther c → piece (c ∷ cs) ≡ comment_or_mark (c ∷ cs)
-unfolding piece
+pub at_other : (c : ℕ) (cs : Scalars) → IsOther c → at_front (c ∷ cs) ≡ comment_or_punctuator (c ∷ cs)
+unfolding at_front
 at_other c cs k =
-    let goal = comment_or_mark (c ∷ cs) in
+    let goal = comment_or_punctuator (c ∷ cs) in
     when_false (is_white_space c) (gap_of false cs) _ goal k.no_space
     (when_false (is_line_end c) (gap_of true cs) _ goal k.no_line
     (when_false (is_name_start c) (named (c ∷ cs) (after is_name_part cs)) _ goal k.no_name
     (when_false (is_decimal c) (numbered (c ∷ cs) (numeral (c ∷ cs))) _ goal k.no_number
     (when_false (is_quote c) (quoted c cs (after_text c Nothing cs)) goal goal k.no_text refl))))
 
--- every mark begins with such a scalar
+-- every punctuator begins with such a scalar
 abbrev is_other : ℕ → Bool
 is_other c = not (is_white_space c || (is_line_end c || (is_name_start c || (is_decimal c || is_quote c))))
 
@@ -184,9 +184,9 @@ other_is c h =
     let k = five (is_white_space c) (is_line_end c) (is_name_start c) (is_decimal c) (is_quote c) h in
     record { no_space = k.0; no_line = k.1; no_name = k.2; no_number = k.3; no_text = k.4 }
 
-marks_other : all_other marks ≡ true
-unfolding unicode_ident marks
-marks_other = refl
+punctuators_other : all_other punctuators ≡ true
+unfolding unicode_ident punctuators
+punctuators_other = refl
 
 pub other_slash : IsOther 47
 unfolding unicode_ident
@@ -199,14 +199,14 @@ in_other m (x ∷ ms) h i = elim i [
   | inr j ↦ in_other m ms (both_right _ _ h) j
 ]
 
-other_front : (m rest : Scalars) → begins_other m ≡ true → piece (m ++ rest) ≡ comment_or_mark (m ++ rest)
+other_front : (m rest : Scalars) → begins_other m ≡ true → at_front (m ++ rest) ≡ comment_or_punctuator (m ++ rest)
 other_front [] rest h = absurd cc
 other_front (c ∷ cs) rest h = at_other c (cs ++ rest) (other_is c h)
 
-pub at_mark : (m rest : Scalars) → IsIn m marks → piece (m ++ rest) ≡ comment_or_mark (m ++ rest)
-at_mark m rest i = other_front m rest (in_other m marks marks_other i)
+pub at_punctuator : (m rest : Scalars) → IsIn m punctuators → at_front (m ++ rest) ≡ comment_or_punctuator (m ++ rest)
+at_punctuator m rest i = other_front m rest (in_other m punctuators punctuators_other i)
 
-pub at_numeral : (n : ℕ) (w rest : Scalars) → Numeral n w rest → piece (w ++ rest) ≡ numbered (w ++ rest) (numeral (w ++ rest))
+pub at_numeral : (n : ℕ) (w rest : Scalars) → Numeral n w rest → at_front (w ++ rest) ≡ numbered (w ++ rest) (numeral (w ++ rest))
 at_numeral n w rest (zero_digit after h) = at_number 48 after refl
 at_numeral n w rest (digits c cs after h k all next) = at_number c (cs ++ after) h
 at_numeral n w rest (hexadecimal c cs after h all next) = at_number 48 (120 ∷ (c ∷ (cs ++ after))) refl
@@ -215,5 +215,5 @@ other_some : (m : Scalars) → begins_other m ≡ true → 0 < length m
 other_some [] h = absurd cc
 other_some (c ∷ cs) h = omega arith
 
-pub mark_some : (m : Scalars) → IsIn m marks → 0 < length m
-mark_some m i = other_some m (in_other m marks marks_other i)
+pub punctuator_some : (m : Scalars) → IsIn m punctuators → 0 < length m
+punctuator_some m i = other_some m (in_other m punctuators punctuators_other i)

@@ -1,7 +1,7 @@
 pub mod Widths
 pub mod Cases
 pub mod Fronts
-pub mod LongestMark
+pub mod LongestPunctuator
 pub mod Numerals
 pub mod HexRuns
 pub mod Escaped

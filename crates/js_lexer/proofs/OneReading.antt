@@ -5,7 +5,7 @@ use Rattle.js_syntax.specs.declared.token_fault.LexKind.{LexKind}
 use Rattle.js_syntax.specs.TokenScalars.{Scalars}
 use Rattle.js_syntax.specs.Tokens.{AreTokens}
 use Rattle.js_syntax.specs.TokenFaults.{IsFault}
-use Rattle.js_lexer.specs.Pieces.{Read}
+use Rattle.js_lexer.specs.TokenAtFrontModel.{Read}
 use Rattle.js_lexer.proofs.Cases.{le_refl}
 use Rattle.js_lexer.proofs.Whole.{ReadIs, read_is, read_again, fault_again}
 use Rattle.js_lexer.proofs.Answered.{whole_read, both_tokens, both_places, never}

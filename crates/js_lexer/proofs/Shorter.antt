@@ -5,14 +5,14 @@ use Rattle.std.proofs.lemmas.List.{length-drop, length-take}
 use Rattle.base_text.specs.Scalars.{utf8_len}
 use Rattle.base_text.proofs.Utf8.{utf8_len-take}
 use Rattle.js_syntax.specs.TokenScalars.{Scalars}
-use Rattle.js_syntax.specs.TokenSpelling.{marks, begins_hexadecimal, IsIn}
-use Rattle.js_lexer.specs.Runs.{before, after, after_mark, digits_from, numeral}
+use Rattle.js_syntax.specs.TokenSpelling.{punctuators, begins_hexadecimal, IsIn}
+use Rattle.js_lexer.specs.RunsModel.{before, after, after_punctuator, digits_from, numeral}
 use Rattle.js_lexer.proofs.Fronts.{length_of, before_of, after_is}
-use Rattle.js_lexer.proofs.LongestMark.{Finds, mark_is}
+use Rattle.js_lexer.proofs.LongestPunctuator.{Finds, punctuator_is}
 use Rattle.js_lexer.proofs.Numerals.{digits_is}
-use Rattle.js_lexer.specs.declared.texts.Taken.TheVariants.{Nothing}
-use Rattle.js_lexer.specs.Texts.{after_text, decode}
-use Rattle.js_lexer.specs.Answers.{IsDecoded}
+use Rattle.js_lexer.specs.declared.string_literals.Taken.TheVariants.{Nothing}
+use Rattle.js_lexer.specs.StringLiteralsModel.{after_text, decode}
+use Rattle.js_lexer.specs.AnswersModel.{IsDecoded}
 use Rattle.js_lexer.proofs.Cases.{test_le, le_refl, cond_holds, both_left, both_right}
 use Rattle.js_lexer.proofs.Extents.{Extends, extent_is}
 use Rattle.js_lexer.proofs.Values.{decode_is}
@@ -32,10 +32,10 @@ some_length : (r rest : Scalars) → Some r ≡ Some rest → length r ≡ lengt
 unfolding or_else_text
 some_length r rest e = ap (λ o. length (or_else_text r o)) e
 
-mark_cases : (text rest : Scalars) (o : Option Scalars) → o ≡ Some rest → Finds marks text o → length rest ≤ length text
-mark_cases text rest None e k = absurd cc
-mark_cases text rest (Some r) e k =
-    let len = length_of text k.mark r k.joins in
+punctuator_cases : (text rest : Scalars) (o : Option Scalars) → o ≡ Some rest → Finds punctuators text o → length rest ≤ length text
+punctuator_cases text rest None e k = absurd cc
+punctuator_cases text rest (Some r) e k =
+    let len = length_of text k.punctuator r k.joins in
     let same : length r ≡ length rest = some_length r rest e in
     omega arith
 
@@ -65,8 +65,8 @@ numeral_shorter (c ∷ cs) =
     (λ k. refl_le (length cs)))
     (λ h. digits_shorter 10 (c ∷ cs) (omega arith))
 
-pub mark_shorter : (text rest : Scalars) → Some rest ≡ after_mark marks text → length rest ≤ length text
-mark_shorter text rest e = mark_cases text rest (after_mark marks text) (sym e) (mark_is text)
+pub punctuator_shorter : (text rest : Scalars) → Some rest ≡ after_punctuator punctuators text → length rest ≤ length text
+punctuator_shorter text rest e = punctuator_cases text rest (after_punctuator punctuators text) (sym e) (punctuator_is text)
 
 pub before_narrow : (text rest : Scalars) → utf8_len (before text rest) ≤ utf8_len text
 before_narrow text rest = utf8_len-take (length text - length rest) text
@@ -77,7 +77,7 @@ numeral_left cs p e = let same = ap (λ (q : ℕ × Scalars). length q.1) e in o
 pub part_narrow : (text rest part : Scalars) (limit : ℕ) → part ≡ before text rest → utf8_len text ≤ limit → utf8_len part ≤ limit
 part_narrow text rest part limit e le = let same = ap utf8_len e in omega (arith, before_narrow text rest)
 
--- every mark is short
+-- every punctuator is short
 abbrev all_short : List Scalars → Bool
 all_short [] = true
 all_short (m ∷ ms) = nat_le (utf8_len m) 3 && all_short ms
@@ -89,19 +89,19 @@ short_in m (x ∷ ms) h i = elim i [
   | inr j ↦ short_in m ms (both_right _ _ h) j
 ]
 
-marks_short : all_short marks ≡ true
-unfolding marks lib.Utf8.encode
-marks_short = refl
+punctuators_short : all_short punctuators ≡ true
+unfolding punctuators lib.Utf8.encode
+punctuators_short = refl
 
-short_cases : (text rest : Scalars) (o : Option Scalars) → o ≡ Some rest → Finds marks text o → utf8_len (before text rest) ≤ 3
+short_cases : (text rest : Scalars) (o : Option Scalars) → o ≡ Some rest → Finds punctuators text o → utf8_len (before text rest) ≤ 3
 short_cases text rest None e k = absurd cc
 short_cases text rest (Some r) e k =
     let same : r ≡ rest = some_same r rest e in
     subst (λ (x : Scalars). utf8_len (before text x) ≤ 3) same
-    (subst (λ (x : Scalars). utf8_len x ≤ 3) (sym (before_of text k.mark r k.joins)) (short_in k.mark marks marks_short k.listed))
+    (subst (λ (x : Scalars). utf8_len x ≤ 3) (sym (before_of text k.punctuator r k.joins)) (short_in k.punctuator punctuators punctuators_short k.listed))
 
-pub mark_short : (text rest part : Scalars) → Some rest ≡ after_mark marks text → part ≡ before text rest → utf8_len part ≤ 3
-mark_short text rest part e p = subst (λ (x : Scalars). utf8_len x ≤ 3) (sym p) (short_cases text rest (after_mark marks text) (sym e) (mark_is text))
+pub punctuator_short : (text rest part : Scalars) → Some rest ≡ after_punctuator punctuators text → part ≡ before text rest → utf8_len part ≤ 3
+punctuator_short text rest part e p = subst (λ (x : Scalars). utf8_len x ≤ 3) (sym p) (short_cases text rest (after_punctuator punctuators text) (sym e) (punctuator_is text))
 
 text_cases : (quote : ℕ) (text rest : Scalars) (o : Option Scalars) → o ≡ Some rest → Extends quote text o → length rest + 1 ≤ length text
 text_cases quote text rest None e k = absurd cc

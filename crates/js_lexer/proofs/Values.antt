@@ -5,8 +5,8 @@ use Rattle.std.specs.Prelude.{encode_utf8_all}
 use Rattle.std.proofs.Math.Utf8.{encode}
 use Rattle.js_syntax.specs.TokenScalars.{Scalars}
 use Rattle.js_syntax.specs.TokenTexts.{Escape, control_escape, null, byte, unicode, pair, line_end, return, return_and_line_feed, own, Spells, spells_nothing, itself, escaped, IsBadEscape}
-use Rattle.js_lexer.specs.Texts.{Given, Decoded, with_given, escaped_then, escape, one, decode}
-use Rattle.js_lexer.specs.Answers.{IsDecoded}
+use Rattle.js_lexer.specs.StringLiteralsModel.{Given, Decoded, with_given, escaped_then, escape, one, decode}
+use Rattle.js_lexer.specs.AnswersModel.{IsDecoded}
 use Rattle.js_lexer.proofs.Cases.{same_scalar, cond_holds, not_both}
 use Rattle.js_lexer.proofs.Escaped.{given_list, Escapes, escape_is, escape_again}
 

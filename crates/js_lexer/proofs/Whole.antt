@@ -9,14 +9,14 @@ use Rattle.js_syntax.specs.declared.token.TokenKind.TheVariants as kinds
 use Rattle.js_syntax.specs.declared.token_fault.LexKind.{LexKind}
 use Rattle.js_syntax.specs.declared.token_fault.LexKind.TheVariants.{BadScalar, UnclosedText, UnclosedComment, WideNumber, TooLong}
 use Rattle.js_syntax.specs.TokenScalars.{Scalars}
-use Rattle.js_syntax.specs.TokenSpelling.{Gap, space, line_end, line_comment, block_comment, Numeral, zero_digit, digits, hexadecimal, Word, name, number, text, mark}
+use Rattle.js_syntax.specs.TokenSpelling.{Gap, space, line_end, line_comment, block_comment, Numeral, zero_digit, digits, hexadecimal, Word, name, number, text, punctuator}
 use Rattle.js_syntax.specs.Tokens.{token_at, AreTokensFrom, end, gap, word}
-use Rattle.js_syntax.specs.TokenFaults.{Flaw, unclosed_comment, long_name, wide_number, stuck, unclosed_text, long_text, bad_escape, bad_scalar, rank, IsNotAfter, IsFirstFlaw, IsFaultFrom, here, after_gap, after_word}
-use Rattle.js_lexer.specs.Runs.{before}
-use Rattle.js_lexer.specs.Pieces.{Piece, no_more, gap_of, word_of, fault_of, piece, Read, with_token, go_on, read_from}
+use Rattle.js_syntax.specs.TokenFaults.{FrontFault, unclosed_comment, long_name, wide_number, number_runs_on, unclosed_text, long_text, bad_escape, bad_scalar, rank, IsNotAfter, IsFirstFrontFault, IsFaultFrom, here, after_gap, after_word}
+use Rattle.js_lexer.specs.RunsModel.{before}
+use Rattle.js_lexer.specs.TokenAtFrontModel.{AtFront, no_more, gap_of, token_of, fault_of, at_front, Read, with_token, go_on, read_from}
 use Rattle.js_lexer.proofs.Fronts.{before_of, length_of}
-use Rattle.js_lexer.proofs.Leads.{mark_some}
-use Rattle.js_lexer.proofs.Sound.{Gapped, Worded, PieceIs, piece_is}
+use Rattle.js_lexer.proofs.Leads.{punctuator_some}
+use Rattle.js_lexer.proofs.Sound.{Gapped, Worded, AtFrontIs, at_front_is}
 use Rattle.js_lexer.proofs.Again.{gap_again, word_again}
 use Rattle.js_lexer.proofs.First.{Seen, flaw_seen}
 
@@ -37,7 +37,7 @@ word_some : (kind : TokenKind) (value w rest : Scalars) → Word kind value w re
 word_some kind value w rest (name c cs next h all e short) = omega arith
 word_some kind value w rest (number n spelled next i le e) = numeral_some n spelled next i
 word_some kind value w rest (text quote body v next q within s short) = omega arith
-word_some kind value w rest (mark m next k) = mark_some m k.listed
+word_some kind value w rest (punctuator m next k) = punctuator_some m k.listed
 
 -- a front that takes a scalar, and its width
 pub record Splits (whole rest : Scalars) : Type 0 where
@@ -51,22 +51,22 @@ splits whole w rest e some =
     let all = ap utf8_len e ∙ utf8_len-append w rest in
     record { shorter = omega arith; widths = omega arith }
 
-pub gap_splits : (whole rest : Scalars) (b : Bool) → piece whole ≡ gap_of b rest → Splits whole rest
+pub gap_splits : (whole rest : Scalars) (b : Bool) → at_front whole ≡ gap_of b rest → Splits whole rest
 gap_splits whole rest b e =
-    let k : Gapped whole rest b = subst (λ (p : Piece). PieceIs whole p) e (piece_is whole) in
+    let k : Gapped whole rest b = subst (λ (p : AtFront). AtFrontIs whole p) e (at_front_is whole) in
     splits whole k.spelled rest k.joins (gap_some k.spelled rest b k.is)
 
-pub word_splits : (whole rest : Scalars) (kind : TokenKind) (value : Scalars) → piece whole ≡ word_of kind value rest → Splits whole rest
+pub word_splits : (whole rest : Scalars) (kind : TokenKind) (value : Scalars) → at_front whole ≡ token_of kind value rest → Splits whole rest
 word_splits whole rest kind value e =
-    let k : Worded whole kind value rest = subst (λ (p : Piece). PieceIs whole p) e (piece_is whole) in
+    let k : Worded whole kind value rest = subst (λ (p : AtFront). AtFrontIs whole p) e (at_front_is whole) in
     splits whole k.spelled rest k.joins (word_some kind value k.spelled rest k.is)
 
 -- a fault stands within the text
-flaw_within : (whole : Scalars) (on : ℕ) (kind : LexKind) → Flaw whole on kind → on ≤ utf8_len whole
+flaw_within : (whole : Scalars) (on : ℕ) (kind : LexKind) → FrontFault whole on kind → on ≤ utf8_len whole
 flaw_within whole on kind (unclosed_comment inside h) = omega arith
 flaw_within whole on kind (long_name c cs rest h all next long) = omega arith
 flaw_within whole on kind (wide_number n w rest i h) = omega arith
-flaw_within whole on kind (stuck n d w rest i h) = omega (arith, utf8_len-append w (d ∷ rest))
+flaw_within whole on kind (number_runs_on n d w rest i h) = omega (arith, utf8_len-append w (d ∷ rest))
 flaw_within whole on kind (unclosed_text quote body rest q w c) = omega arith
 flaw_within whole on kind (long_text quote read left value rest q w s long) = omega arith
 flaw_within whole on kind (bad_escape quote read left value rest q w s b) =
@@ -75,17 +75,17 @@ flaw_within whole on kind (bad_escape quote read left value rest q w s b) =
     omega arith
 flaw_within whole on kind (bad_scalar c cs a b d e f o none) = omega arith
 
-pub fault_within : (whole : Scalars) (on : ℕ) (kind : LexKind) → piece whole ≡ fault_of on kind → on ≤ utf8_len whole
+pub fault_within : (whole : Scalars) (on : ℕ) (kind : LexKind) → at_front whole ≡ fault_of on kind → on ≤ utf8_len whole
 fault_within whole on kind e =
-    let k : Flaw whole on kind = subst (λ (p : Piece). PieceIs whole p) e (piece_is whole) in
+    let k : FrontFault whole on kind = subst (λ (p : AtFront). AtFrontIs whole p) e (at_front_is whole) in
     flaw_within whole on kind k
 
 -- ---- the first fault
 
-fault_first : (whole : Scalars) (on : ℕ) (kind : LexKind) → piece whole ≡ fault_of on kind → IsFirstFlaw whole on kind
+fault_first : (whole : Scalars) (on : ℕ) (kind : LexKind) → at_front whole ≡ fault_of on kind → IsFirstFrontFault whole on kind
 fault_first whole on kind e = record {
-  stands = (let k : Flaw whole on kind = subst (λ (p : Piece). PieceIs whole p) e (piece_is whole) in k);
-  first = λ other_on other_kind f. (let s : Seen (fault_of on kind) other_on other_kind = subst (λ (p : Piece). Seen p other_on other_kind) e (flaw_seen whole other_on other_kind f) in s);
+  stands = (let k : FrontFault whole on kind = subst (λ (p : AtFront). AtFrontIs whole p) e (at_front_is whole) in k);
+  first = λ other_on other_kind f. (let s : Seen (fault_of on kind) other_on other_kind = subst (λ (p : AtFront). Seen p other_on other_kind) e (flaw_seen whole other_on other_kind f) in s);
 }
 
 kind_at : ℕ → LexKind
@@ -141,7 +141,7 @@ le_from : (a b n : ℕ) → a < b → b ≤ suc n → a ≤ n
 le_from a b n h k = omega arith
 
 goes_on : (n at : ℕ) (line : Bool) (whole : Scalars) → length whole ≤ suc n → ((at : ℕ) (line : Bool) (rest : Scalars) → length rest ≤ n → ReadIs at line rest (read_from n at line rest))
-    → (p : Piece) → piece whole ≡ p → PieceIs whole p → ReadIs at line whole (go_on at line whole (read_from n) p)
+    → (p : AtFront) → at_front whole ≡ p → AtFrontIs whole p → ReadIs at line whole (go_on at line whole (read_from n) p)
 goes_on n at line whole le later no_more e k = subst (λ (t : Scalars). AreTokensFrom at line t (token_at at line kinds.End [] [] ∷ [])) (sym k) (end at line)
 goes_on n at line whole le later (gap_of b rest) e k =
     let width = ap (λ (x : Scalars). at + utf8_len x) (before_of whole k.spelled rest k.joins) in
@@ -149,7 +149,7 @@ goes_on n at line whole le later (gap_of b rest) e k =
     subst (λ (m : ℕ). ReadIs at line whole (read_from n m (line || b) rest)) (sym width)
     (gap_then at line b whole k.spelled rest (read_from n (at + utf8_len k.spelled) (line || b) rest) k.joins k.is
     (later (at + utf8_len k.spelled) (line || b) rest (le_from (length rest) (length whole) n s.shorter le)))
-goes_on n at line whole le later (word_of kind value rest) e k =
+goes_on n at line whole le later (token_of kind value rest) e k =
     let spelled = before_of whole k.spelled rest k.joins in
     let s = word_splits whole rest kind value e in
     subst (λ (w : Scalars). ReadIs at line whole (with_token (token_at at line kind value w) (read_from n (at + utf8_len w) false rest))) (sym spelled)
@@ -164,13 +164,13 @@ nothing_left (c ∷ cs) le = absurd (omega arith)
 pub read_is : (n at : ℕ) (line : Bool) (whole : Scalars) → length whole ≤ n → ReadIs at line whole (read_from n at line whole)
 unfolding read_from
 read_is zero at line whole le = subst (λ (t : Scalars). AreTokensFrom at line t (token_at at line kinds.End [] [] ∷ [])) (sym (nothing_left whole le)) (end at line)
-read_is (suc n) at line whole le = goes_on n at line whole le (λ at line rest h. read_is n at line rest h) (piece whole) refl (piece_is whole)
+read_is (suc n) at line whole le = goes_on n at line whole le (λ at line rest h. read_is n at line rest h) (at_front whole) refl (at_front_is whole)
 
 -- ---- what is spelled so is read
 
-piece_nil : piece [] ≡ no_more
-unfolding piece
-piece_nil = refl
+at_front_nil : at_front [] ≡ no_more
+unfolding at_front
+at_front_nil = refl
 
 less_by : (w rest : Scalars) (n : ℕ) → 0 < length w → length (w ++ rest) ≤ suc n → length rest ≤ n
 less_by w rest n some le = omega (arith, length-append w rest)
@@ -194,7 +194,7 @@ word_step n at line kind value w rest k =
 end_step : (n at : ℕ) (line : Bool) → read_from n at line [] ≡ Ok (token_at at line kinds.End [] [] ∷ [])
 unfolding read_from
 end_step zero at line = refl
-end_step (suc n) at line = ap (go_on at line [] (read_from n)) piece_nil
+end_step (suc n) at line = ap (go_on at line [] (read_from n)) at_front_nil
 
 pub read_again : (n at : ℕ) (line : Bool) (whole : Scalars) (ts : List Token) → AreTokensFrom at line whole ts → length whole ≤ n → read_from n at line whole ≡ Ok ts
 read_again n at line whole ts (end at' line') le = end_step n at' line'
@@ -208,22 +208,22 @@ read_again (suc n) at line whole ts (word at' line' kind value w rest us k l) le
 
 -- ---- a fault that is the first is answered
 
-here_cases : (n at on : ℕ) (line : Bool) (kind : LexKind) (whole : Scalars) (p : Piece) → piece whole ≡ p → Seen p on kind → IsFirstFlaw whole on kind → go_on at line whole (read_from n) p ≡ Err (at + on, kind)
+here_cases : (n at on : ℕ) (line : Bool) (kind : LexKind) (whole : Scalars) (p : AtFront) → at_front whole ≡ p → Seen p on kind → IsFirstFrontFault whole on kind → go_on at line whole (read_from n) p ≡ Err (at + on, kind)
 here_cases n at on line kind whole no_more e s f = absurd s
 here_cases n at on line kind whole (gap_of b rest) e s f = absurd s
-here_cases n at on line kind whole (word_of k v rest) e s f = absurd s
+here_cases n at on line kind whole (token_of k v rest) e s f = absurd s
 here_cases n at on line kind whole (fault_of o k) e s f =
     let read = fault_first whole o k e in
     let same = not_after_both o on k kind s (f.first o k read.stands) in
     ap (λ (m : ℕ). Err (at + m, k)) same.0 ∙ ap (λ (l : LexKind). Err (at + on, l)) same.1
 
-no_flaw : (on : ℕ) (kind : LexKind) → Flaw [] on kind → ⊥
-no_flaw on kind f = let s : Seen no_more on kind = subst (λ (p : Piece). Seen p on kind) piece_nil (flaw_seen [] on kind f) in s
+no_flaw : (on : ℕ) (kind : LexKind) → FrontFault [] on kind → ⊥
+no_flaw on kind f = let s : Seen no_more on kind = subst (λ (p : AtFront). Seen p on kind) at_front_nil (flaw_seen [] on kind f) in s
 
 pub fault_again : (n at : ℕ) (line : Bool) (whole : Scalars) (place : ℕ) (kind : LexKind) → IsFaultFrom at whole place kind → length whole ≤ n → read_from n at line whole ≡ Err (place, kind)
 unfolding read_from
-fault_again zero at line whole place kind (here at' on k t f) le = absurd (no_flaw on k (subst (λ (x : Scalars). Flaw x on k) (nothing_left t le) f.stands))
-fault_again (suc n) at line whole place kind (here at' on k t f) le = here_cases n at' on line k t (piece t) refl (flaw_seen t on k f.stands) f
+fault_again zero at line whole place kind (here at' on k t f) le = absurd (no_flaw on k (subst (λ (x : Scalars). FrontFault x on k) (nothing_left t le) f.stands))
+fault_again (suc n) at line whole place kind (here at' on k t f) le = here_cases n at' on line k t (at_front t) refl (flaw_seen t on k f.stands) f
 fault_again zero at line whole place kind (after_gap at' p k b g rest i l) le = absurd (none_fits g rest (gap_some g rest b i) le)
 fault_again zero at line whole place kind (after_word at' p k kind' value w rest i l) le = absurd (none_fits w rest (word_some kind' value w rest i) le)
 fault_again (suc n) at line whole place kind (after_gap at' p k b g rest i l) le =

@@ -1,4 +1,4 @@
-pub mod Runs
-pub mod Texts
-pub mod Pieces
-pub mod Answers
+pub mod RunsModel
+pub mod StringLiteralsModel
+pub mod TokenAtFrontModel
+pub mod AnswersModel

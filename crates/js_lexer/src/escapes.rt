@@ -1,9 +1,9 @@
-//! The value that a text spells.
+//! The value of a string literal, with its escapes (ECMAScript, 12.9.4).
 
 ghost use Rattle.std.specs.Prelude.{◌≡◌, ◌≤◌, ◌<◌, length, option_map, encode_utf8_all, IfOk, IsTrue};
 ghost use Rattle.std.specs.String.{string_bytes};
-ghost use Rattle.js_lexer.specs.Texts as read;
-ghost use Rattle.js_lexer.specs.Answers.{IsDecoded};
+ghost use Rattle.js_lexer.specs.StringLiteralsModel as read;
+ghost use Rattle.js_lexer.specs.AnswersModel.{IsDecoded};
 ghost use Rattle.js_syntax.specs.TokenScalars as spec;
 ghost use Rattle.js_syntax.specs.TokenTexts as text;
 
@@ -14,8 +14,8 @@ use std::alloc::{AllocError, Global};
 /// A scalar or none, and what follows.
 pub type Given<'a> = (Option<char>, &'a [char]);
 
-/// So many hexadecimal digits: the number, and what follows.
-#[tactic(auto, unfolding(crate::specs::Texts::run_of))]
+/// This count of hexadecimal digits: the number, and what follows.
+#[tactic(auto, unfolding(crate::specs::StringLiteralsModel::run_of))]
 fn run_of(count: usize, text: &[char]) -> Option<(u64, &[char])>
     ensures { option_map (λ p. (p.0, p.1.now)) result ≡ read.run_of count text.now }
 {
@@ -31,7 +31,7 @@ fn run_of(count: usize, text: &[char]) -> Option<(u64, &[char])>
 }
 
 /// One to six hexadecimal digits up to the brace: the number, and what follows.
-#[tactic(auto, unfolding(crate::specs::Texts::braced))]
+#[tactic(auto, unfolding(crate::specs::StringLiteralsModel::braced))]
 fn braced(text: &[char]) -> Option<(u64, &[char])>
     ensures { option_map (λ p. (p.0, p.1.now)) result ≡ read.braced text.now }
 {
@@ -45,8 +45,8 @@ fn braced(text: &[char]) -> Option<(u64, &[char])>
     }
 }
 
-/// Behind `\u`: the number, which may be half of a pair, and what follows.
-#[tactic(auto, unfolding(crate::specs::Texts::unicode))]
+/// After `\u`: the number, which may be half of a pair, and what follows.
+#[tactic(auto, unfolding(crate::specs::StringLiteralsModel::unicode))]
 fn unicode(text: &[char]) -> Option<(u32, &[char])>
     ensures { option_map (λ p. (p.0, p.1.now)) result ≡ read.unicode text.now }
 {
@@ -73,8 +73,8 @@ fn is_low_surrogate(number: u32) -> bool
     0xDC00 <= number && number <= 0xDFFF
 }
 
-/// The scalar of a pair, whose second half is to stand here.
-#[tactic(auto, unfolding(crate::specs::Texts::second_half))]
+/// The scalar of a surrogate pair, whose second half has to follow here.
+#[tactic(auto, unfolding(crate::specs::StringLiteralsModel::second_half))]
 fn second_half(high: u32, text: &[char]) -> Option<Given<'_>>
     requires { IsTrue (spec.is_high_surrogate high) }
     ensures { option_map (λ p. (p.0, p.1.now)) result ≡ read.second_half high text.now }
@@ -90,7 +90,7 @@ fn second_half(high: u32, text: &[char]) -> Option<Given<'_>>
     Some((Some(scalar), rest))
 }
 
-#[tactic(auto, unfolding(crate::specs::Texts::second_half))]
+#[tactic(auto, unfolding(crate::specs::StringLiteralsModel::second_half))]
 fn unicode_given(text: &[char]) -> Option<Given<'_>>
     ensures { option_map (λ p. (p.0, p.1.now)) result ≡ read.unicode_given (read.unicode text.now) }
 {
@@ -140,7 +140,7 @@ fn begins_decimal(text: &[char]) -> bool
 }
 
 /// What a backslash before this gives, and what follows; none where that is no escape.
-#[tactic(auto, unfolding(crate::specs::Texts::escape))]
+#[tactic(auto, unfolding(crate::specs::StringLiteralsModel::escape))]
 fn escape(text: &[char]) -> Option<Given<'_>>
     ensures { option_map (λ p. (p.0, p.1.now)) result ≡ read.escape text.now }
 {
@@ -159,7 +159,7 @@ fn escape(text: &[char]) -> Option<Given<'_>>
 }
 
 /// The scalar or escape at the front.
-#[tactic(auto, unfolding(crate::specs::Texts::one))]
+#[tactic(auto, unfolding(crate::specs::StringLiteralsModel::one))]
 fn one(text: &[char]) -> Option<Given<'_>>
     ensures { option_map (λ p. (p.0, p.1.now)) result ≡ read.one text.now }
 {

@@ -3,14 +3,14 @@
 
 mod escapes;
 mod laws;
-mod marks;
 mod numbers;
-mod pieces;
+mod punctuators;
 mod runs;
 mod scalars;
+mod string_literals;
 #[cfg(test)]
 mod tests;
-mod texts;
+mod token_at_front;
 mod tokens;
 
 pub use js_syntax::{LexFault, LexKind};

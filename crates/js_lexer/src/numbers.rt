@@ -1,16 +1,17 @@
-//! The reading of a number.
+//! Numeric literals (ECMAScript, 12.9.3).
 
 ghost use Rattle.std.specs.Prelude.{◌≡◌, ◌≤◌, ◌<◌, length};
-ghost use Rattle.js_lexer.specs.Runs as read;
+ghost use Rattle.js_lexer.specs.RunsModel as read;
 ghost use Rattle.js_syntax.specs.TokenSpelling.{begins_hexadecimal};
 
 use crate::scalars::is_hexadecimal;
+use base_text::MAX_SAFE_INTEGER;
 
-/// One more than the widest number, which stands for every number over it.
-const TOO_WIDE: u64 = 9_007_199_254_740_992;
+/// One more than the greatest number, to which every number over it is cut.
+const TOO_WIDE: u64 = MAX_SAFE_INTEGER as u64 + 1;
 
 /// The number that the digits at the front write, and what follows them.
-#[tactic(auto, unfolding(crate::specs::Runs::digits_from))]
+#[tactic(auto, unfolding(crate::specs::RunsModel::digits_from))]
 pub fn digits(mut text: &[char], radix: u32) -> (u64, &[char])
     requires low { 2 ≤ radix }
     requires high { radix ≤ 16 }
@@ -34,7 +35,7 @@ fn begins_hexadecimal(text: &[char]) -> bool
 }
 
 /// The number that begins with this digit, and what follows it.
-#[tactic(auto, unfolding(crate::specs::Runs::numeral))]
+#[tactic(auto, unfolding(crate::specs::RunsModel::numeral))]
 pub fn numeral(text: &[char]) -> (u64, &[char])
     ensures { (result.0, result.1.now) ≡ read.numeral text.now }
 {

@@ -1,16 +1,16 @@
-//! What the reading of a name, a number, a comment or a mark leaves of a text.
+//! Each function here skips one kind of token or gap and returns the rest of the input.
 
 ghost use Rattle.std.specs.Prelude.{◌≡◌, ◌≤◌, ◌<◌, length, map, option_map, Option, Some, None, false};
 ghost use Rattle.std.specs.Option.{option_copied};
 ghost use Rattle.std.specs.Str.{bytes_eq};
-ghost use Rattle.js_lexer.specs.Runs as read;
+ghost use Rattle.js_lexer.specs.RunsModel as read;
 ghost use Rattle.js_syntax.specs.TokenScalars as spec;
-ghost use Rattle.js_syntax.specs.TokenSpelling.{closes_comment, begins_hexadecimal, is_reserved, marks};
+ghost use Rattle.js_syntax.specs.TokenSpelling.{closes_comment, begins_hexadecimal, punctuators};
 
 use crate::scalars::{is_line_end, is_name_part};
 
 /// What follows the scalars at the front that go on with a name.
-#[tactic(auto, unfolding(crate::specs::Runs::after))]
+#[tactic(auto, unfolding(crate::specs::RunsModel::after))]
 pub fn after_name(mut text: &[char]) -> &[char]
     ensures { result.now ≡ read.after spec.is_name_part text.entry.now }
 {
@@ -24,7 +24,7 @@ pub fn after_name(mut text: &[char]) -> &[char]
 }
 
 /// What follows the scalars at the front that stand in one line.
-#[tactic(auto, unfolding(crate::specs::Runs::after))]
+#[tactic(auto, unfolding(crate::specs::RunsModel::after))]
 pub fn after_line(mut text: &[char]) -> &[char]
     ensures { result.now ≡ read.after spec.is_in_line text.entry.now }
 {
@@ -44,7 +44,7 @@ fn is_close(text: &[char]) -> bool
 }
 
 /// What follows the next `*/`, and whether a line ends before it.
-#[tactic(auto, unfolding(crate::specs::Runs::after_block))]
+#[tactic(auto, unfolding(crate::specs::RunsModel::after_block))]
 pub fn after_block(mut text: &[char]) -> Option<(bool, &[char])>
     ensures { option_map (λ p. (p.0, p.1.now)) result ≡ read.after_block false text.entry.now }
 {

@@ -105,7 +105,7 @@ fn names_numbers_and_gaps(rt: HostRuntime) -> Result<(), Fail> {
 }
 
 #[test]
-fn marks_and_texts(rt: HostRuntime) -> Result<(), Fail> {
+fn punctuators_and_texts(rt: HostRuntime) -> Result<(), Fail> {
     for (text, want) in [
         (
             "=== !== == != <= >= && || ++ -- += -= *= /= %=",

@@ -4,17 +4,18 @@ ghost use Rattle.std.specs.Prelude.{◌≡◌, ◌≤◌, ◌+◌, List, [], ℕ
 ghost use Rattle.std.specs.Str.{chars};
 ghost use Rattle.base_text.specs.Scalars.{utf8_len};
 ghost use Rattle.base_text.specs.declared.text.TheConstants.{SOURCE_LIMIT};
-ghost use Rattle.js_lexer.specs.Answers.{Tells, IfFault, OkOrMemory, FaultOrMemory};
-ghost use Rattle.js_lexer.specs.Pieces as read;
-ghost use Rattle.js_lexer.specs.Runs.{before};
+ghost use Rattle.base_text.specs.Answers.{IfFault, OkOrMemory, FaultOrMemory};
+ghost use Rattle.js_lexer.specs.AnswersModel.{Tells};
+ghost use Rattle.js_lexer.specs.TokenAtFrontModel as read;
+ghost use Rattle.js_lexer.specs.RunsModel.{before};
 ghost use Rattle.js_syntax.specs.TokenFaults.{IsFault};
 ghost use Rattle.js_syntax.specs.Tokens.{AreTokens, token_at};
 ghost use Rattle.js_syntax.specs.declared.token.TokenKind.TheVariants as kinds;
 ghost use Rattle.js_syntax.specs.declared.token.Token.{Token};
 ghost use Rattle.js_syntax.specs.declared.token_fault.LexKind.{LexKind};
 
-use crate::pieces::{Flaw, Front, front_of};
 use crate::scalars::{before, scalars, width};
+use crate::token_at_front::{Front, FrontFault, front_of};
 use base_text::{Mem, NoMemory, OrMemory, Text, TextFault};
 use js_syntax::{LexFault, Token, TokenKind, Tokens};
 use std::alloc::Global;
@@ -36,7 +37,7 @@ fn end_at(alloc: Global, at: u32, line_before: bool) -> Mem<Token>
     }
 }
 
-/// The place behind what stands before the rest, where what is left begins at `at`.
+/// The place after what comes before the rest, where what is left begins at `at`.
 fn place_after(at: u32, left: &[char], rest: &[char]) -> u32
     requires part { length rest.now ≤ length left.now }
     requires limit { at + utf8_len left.now ≤ SOURCE_LIMIT }
@@ -46,13 +47,13 @@ fn place_after(at: u32, left: &[char], rest: &[char]) -> u32
 }
 
 /// The fault in the whole text, where what is left begins at `at`.
-fn fault_at(at: u32, flaw: Flaw) -> LexFault
-    requires { at + flaw.on ≤ SOURCE_LIMIT }
-    ensures { result ≡ record { at = at + flaw.on; kind = flaw.kind } }
+fn fault_at(at: u32, fault: FrontFault) -> LexFault
+    requires { at + fault.on ≤ SOURCE_LIMIT }
+    ensures { result ≡ record { at = at + fault.on; kind = fault.kind } }
 {
     LexFault {
-        at: at + flaw.on as u32,
-        kind: flaw.kind,
+        at: at + fault.on as u32,
+        kind: fault.kind,
     }
 }
 
@@ -72,7 +73,7 @@ fn read(alloc: Global, text: &[char]) -> Result<Tokens, OrMemory<LexFault>>
                 line_before |= breaks;
                 left = rest;
             }
-            Ok(Front::Word { kind, text, rest }) => {
+            Ok(Front::Token { kind, text, rest }) => {
                 let to = place_after(at, left, rest);
                 tokens.push(Token {
                     kind,
@@ -85,7 +86,7 @@ fn read(alloc: Global, text: &[char]) -> Result<Tokens, OrMemory<LexFault>>
                 line_before = false;
                 left = rest;
             }
-            Err(OrMemory::Fault(flaw)) => return Err(OrMemory::Fault(fault_at(at, flaw))),
+            Err(OrMemory::Fault(fault)) => return Err(OrMemory::Fault(fault_at(at, fault))),
             Err(OrMemory::NoMemory) => return Err(OrMemory::NoMemory),
         }
     }
@@ -97,18 +98,18 @@ fn read(alloc: Global, text: &[char]) -> Result<Tokens, OrMemory<LexFault>>
 /// Grammar).
 ///
 /// Places count bytes from the text's beginning. A `Fault` comes exactly where the text has no tokens.
-/// It is the first one: the faults behind a token aren't looked at, of those at one token the earliest
+/// It is the first one: faults after a token aren't looked at, of those at one token the earliest
 /// place comes first, and at one place the order of `LexKind`.
 pub fn lex(alloc: Global, s: &str) -> Result<Tokens, OrMemory<LexFault>>
     requires { length s.now ≤ SOURCE_LIMIT }
-    // What is read are tokens of the text.
+    // What is returned are tokens of the text.
     ensures ok { IfOk result (λ tokens. AreTokens (chars s.now) tokens) }
-    // What are tokens of the text is read.
+    // The tokens of a text are returned.
     ensures only { (tokens : List Token) → AreTokens (chars s.now) tokens → OkOrMemory result tokens }
-    // A refusal is the first fault of the text.
+    // A fault is the first of the text.
     ensures fault { IfFault result (λ f. IsFault (chars s.now) f.at f.kind) }
-    // The first fault of the text is answered.
-    ensures first { (at : ℕ) (kind : LexKind) → IsFault (chars s.now) at kind → FaultOrMemory result at kind }
+    // The first fault of a text is returned.
+    ensures first { (at : ℕ) (kind : LexKind) → IsFault (chars s.now) at kind → FaultOrMemory result (record { at = at; kind = kind }) }
 {
     let text = scalars(alloc, s)?;
     read(alloc, &text)

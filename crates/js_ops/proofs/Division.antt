@@ -7,7 +7,7 @@ use Rattle.std.proofs.lemmas.Int.{ints, quot-rem}
 use Rattle.std.proofs.lemmas.Nat.{div-mul-add}
 use Rattle.js_ops.specs.Numbers.{Answer, IsQuotient, is_number, is_zero, quotient}
 use Rattle.js_ops.specs.declared.fault.OpFault.TheVariants.{Range}
-use Rattle.js_ops.specs.declared.prim.Prim.TheVariants.{Number}
+use Rattle.js_ops.specs.declared.primitive.Primitive.TheVariants.{Number}
 
 -- natural numbers divide their products
 product-div : (m n : ℕ) → m * suc n / suc n ≡ m

@@ -1,6 +1,6 @@
 pub mod Numbers
 pub mod Numerals
 pub mod Operators
-pub mod Prims
+pub mod Primitives
 pub mod Reading
 pub mod Spelled

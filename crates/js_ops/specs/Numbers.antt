@@ -3,12 +3,12 @@
 use Rattle.std.specs.Prelude.{◌≡◌, ◌-◌, ◌^◌, Bool, true, false, nat_le, ◌==◌, if◌then◌else◌, Result, Ok, Err, ℤ, ◌+ℤ◌, ◌-ℤ◌, ◌*ℤ◌, neg_ℤ, int_div, int_rem, unsigned_abs}
 use Rattle.js_ops.specs.declared.fault.OpFault.{OpFault}
 use Rattle.js_ops.specs.declared.fault.OpFault.TheVariants.{Range}
-use Rattle.js_ops.specs.declared.prim.Prim.{Prim}
-use Rattle.js_ops.specs.declared.prim.Prim.TheVariants.{Number}
+use Rattle.js_ops.specs.declared.primitive.Primitive.{Primitive}
+use Rattle.js_ops.specs.declared.primitive.Primitive.TheVariants.{Number}
 
 -- what an operator gives, or why it gives nothing
 abbrev pub Answer : Type 0
-Answer = Result Prim OpFault
+Answer = Result Primitive OpFault
 
 -- 21.1.2.5 Number.isSafeInteger
 abbrev pub is_number : ℤ → Bool

@@ -3,23 +3,21 @@ ghost use Rattle.std.specs.Prelude.{◌≡◌};
 ghost use Rattle.js_ops.specs.Numbers.{difference, number, opposite, product, quotient, remainder, sum};
 
 use crate::fault::OpFault;
-use crate::prim::Prim;
-
-/// The greatest number (ECMAScript 21.1.2.6 Number.MAX_SAFE_INTEGER); the least is this with `-` before it.
-pub(crate) const MAX_NUMBER: i64 = 9_007_199_254_740_991;
+use crate::primitive::Primitive;
+use base_text::MAX_SAFE_INTEGER;
 
 /// The number, if it is in range.
-pub(crate) fn number(n: i64) -> Result<Prim, OpFault>
+pub(crate) fn number(n: i64) -> Result<Primitive, OpFault>
     ensures { result ≡ number n }
 {
-    if -MAX_NUMBER <= n && n <= MAX_NUMBER {
-        Ok(Prim::Number(n))
+    if -MAX_SAFE_INTEGER <= n && n <= MAX_SAFE_INTEGER {
+        Ok(Primitive::Number(n))
     } else {
         Err(OpFault::Range)
     }
 }
 
-pub(crate) fn sum(a: i64, b: i64) -> Result<Prim, OpFault>
+pub(crate) fn sum(a: i64, b: i64) -> Result<Primitive, OpFault>
     ensures { result ≡ sum a b }
 {
     match a.checked_add(b) {
@@ -28,7 +26,7 @@ pub(crate) fn sum(a: i64, b: i64) -> Result<Prim, OpFault>
     }
 }
 
-pub(crate) fn difference(a: i64, b: i64) -> Result<Prim, OpFault>
+pub(crate) fn difference(a: i64, b: i64) -> Result<Primitive, OpFault>
     ensures { result ≡ difference a b }
 {
     match a.checked_sub(b) {
@@ -37,7 +35,7 @@ pub(crate) fn difference(a: i64, b: i64) -> Result<Prim, OpFault>
     }
 }
 
-pub(crate) fn product(a: i64, b: i64) -> Result<Prim, OpFault>
+pub(crate) fn product(a: i64, b: i64) -> Result<Primitive, OpFault>
     ensures { result ≡ product a b }
 {
     match a.checked_mul(b) {
@@ -47,7 +45,7 @@ pub(crate) fn product(a: i64, b: i64) -> Result<Prim, OpFault>
 }
 
 /// The quotient, if the division is exact.
-pub(crate) fn quotient(a: i64, b: i64) -> Result<Prim, OpFault>
+pub(crate) fn quotient(a: i64, b: i64) -> Result<Primitive, OpFault>
     ensures { result ≡ quotient a b }
 {
     if b == 0 || a.wrapping_rem(b) != 0 {
@@ -60,7 +58,7 @@ pub(crate) fn quotient(a: i64, b: i64) -> Result<Prim, OpFault>
 }
 
 /// The remainder, with the sign of the dividend.
-pub(crate) fn remainder(a: i64, b: i64) -> Result<Prim, OpFault>
+pub(crate) fn remainder(a: i64, b: i64) -> Result<Primitive, OpFault>
     ensures { result ≡ remainder a b }
 {
     if b == 0 {
@@ -70,7 +68,7 @@ pub(crate) fn remainder(a: i64, b: i64) -> Result<Prim, OpFault>
 }
 
 /// The number with the other sign.
-pub(crate) fn opposite(n: i64) -> Result<Prim, OpFault>
+pub(crate) fn opposite(n: i64) -> Result<Primitive, OpFault>
     ensures { result ≡ opposite n }
 {
     match n.checked_neg() {

@@ -3,7 +3,7 @@ ghost use Rattle.std.specs.Prelude.{◌≡◌, ◌↔◌, List, ℕ, ℤ, Ok, So
 ghost use Rattle.js_ops.specs.Numbers.{IsQuotient, quotient};
 ghost use Rattle.js_ops.specs.Numerals.{number_spelled};
 ghost use Rattle.js_ops.specs.Spelled.{Spells};
-ghost use Rattle.js_ops.specs.declared.prim.Prim.TheVariants.{Number};
+ghost use Rattle.js_ops.specs.declared.primitive.Primitive.TheVariants.{Number};
 
 /// A text spells a number just where it is white space, `-` or nothing, decimal digits and white space, and it is that of
 /// the digits; so it spells one at most.

@@ -1,5 +1,5 @@
-//! The operators of scripts on primitive values: what each gives or why it gives nothing, and what a primitive value is as
-//! a truth, a text and a key.
+//! The operators of scripts on primitive values, with the fault where one has no result; and ToBoolean, ToString and
+//! ToPropertyKey of a primitive value (ECMAScript, 7.1 and 13).
 #![tactic(auto)]
 
 mod arithmetic;
@@ -7,7 +7,7 @@ mod fault;
 mod laws;
 mod numeral;
 mod one_operand;
-mod prim;
+mod primitive;
 #[cfg(test)]
 mod tests;
 mod two_operands;
@@ -15,5 +15,5 @@ mod two_operands;
 pub use fault::OpFault;
 pub use laws::{numbers_are_spelled_by_the_grammar, quotients_are_exact};
 pub use one_operand::unary;
-pub use prim::{Prim, same, to_key, to_text, truth};
+pub use primitive::{Primitive, same, to_boolean, to_key, to_text};
 pub use two_operands::binary;

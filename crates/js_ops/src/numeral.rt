@@ -6,10 +6,10 @@ ghost use Rattle.js_ops.specs.Numerals.{is_blank, number_spelled, signed};
 ghost use Rattle.js_ops.specs.Operators.{spelled};
 ghost use Rattle.js_ops.specs.Reading.{answer_from};
 
-use crate::arithmetic::{MAX_NUMBER, number};
+use crate::arithmetic::number;
 use crate::fault::OpFault;
-use crate::prim::Prim;
-use base_text::Text;
+use crate::primitive::Primitive;
+use base_text::{MAX_SAFE_INTEGER, Text};
 
 /// How far a text is read, from its front.
 #[derive(Clone, Copy)]
@@ -27,7 +27,7 @@ enum Reading {
 }
 
 /// The number that the text spells: `Range` where it spells none, or one out of range.
-pub(crate) fn number_spelled(text: &Text) -> Result<Prim, OpFault>
+pub(crate) fn number_spelled(text: &Text) -> Result<Primitive, OpFault>
     ensures { result ≡ spelled (number_spelled text.now) }
 {
     let mut reading = Reading::Start;
@@ -115,10 +115,10 @@ fn is_blank(c: char) -> bool
     )
 }
 
-fn signed(minus: bool, value: u64) -> Result<Prim, OpFault>
+fn signed(minus: bool, value: u64) -> Result<Primitive, OpFault>
     ensures { result ≡ number (signed minus value) }
 {
-    if value > MAX_NUMBER as u64 {
+    if value > MAX_SAFE_INTEGER as u64 {
         return Err(OpFault::Range);
     }
     let n = value as i64;

@@ -1,5 +1,5 @@
 //! The operators' table on values from outside: ECMAScript's answers, and this project's own where they differ.
-use crate::{OpFault, Prim, binary, same, to_key, to_text, truth, unary};
+use crate::{OpFault, Primitive, binary, same, to_boolean, to_key, to_text, unary};
 use base_text::{BinaryOp, NoMemory, Text, UnaryOp};
 use std::alloc::Global;
 use std::test::Fail;
@@ -16,23 +16,23 @@ enum Row<'a> {
 
 const MAX: i64 = 9_007_199_254_740_991;
 
-fn prim(alloc: Global, row: Row<'_>) -> Result<Prim, Fail> {
+fn primitive(alloc: Global, row: Row<'_>) -> Result<Primitive, Fail> {
     Ok(match row {
-        Row::Undefined => Prim::Undefined,
-        Row::Null => Prim::Null,
-        Row::Bool(b) => Prim::Bool(b),
-        Row::Number(n) => Prim::Number(n),
-        Row::Str(t) => Prim::Str(Text::of(alloc, t)?),
+        Row::Undefined => Primitive::Undefined,
+        Row::Null => Primitive::Null,
+        Row::Bool(b) => Primitive::Bool(b),
+        Row::Number(n) => Primitive::Number(n),
+        Row::Str(t) => Primitive::Str(Text::of(alloc, t)?),
     })
 }
 
-fn row_of(answer: &Result<Prim, OpFault>) -> Result<Row<'_>, OpFault> {
+fn row_of(answer: &Result<Primitive, OpFault>) -> Result<Row<'_>, OpFault> {
     match answer {
-        Ok(Prim::Undefined) => Ok(Row::Undefined),
-        Ok(Prim::Null) => Ok(Row::Null),
-        Ok(Prim::Bool(b)) => Ok(Row::Bool(*b)),
-        Ok(Prim::Number(n)) => Ok(Row::Number(*n)),
-        Ok(Prim::Str(t)) => Ok(Row::Str(t.as_str())),
+        Ok(Primitive::Undefined) => Ok(Row::Undefined),
+        Ok(Primitive::Null) => Ok(Row::Null),
+        Ok(Primitive::Bool(b)) => Ok(Row::Bool(*b)),
+        Ok(Primitive::Number(n)) => Ok(Row::Number(*n)),
+        Ok(Primitive::Str(t)) => Ok(Row::Str(t.as_str())),
         Err(fault) => Err(*fault),
     }
 }
@@ -72,7 +72,7 @@ fn numbers_are_reckoned_with(rt: HostRuntime) -> Result<(), Fail> {
         (-6, BinaryOp::Remain, 3, Ok(0)),
         (5, BinaryOp::Remain, 0, range),
     ] {
-        let told = binary(alloc, op, &Prim::Number(a), &Prim::Number(b));
+        let told = binary(alloc, op, &Primitive::Number(a), &Primitive::Number(b));
         assert_eq!(rt;
             row_of(&told),
             answer.map(|n| Row::Number(n)),
@@ -96,7 +96,12 @@ fn texts_are_joined(rt: HostRuntime) -> Result<(), Fail> {
         (Row::Undefined, Row::Number(1), Err(OpFault::Kind)),
         (Row::Null, Row::Bool(false), Err(OpFault::Kind)),
     ] {
-        let told = binary(alloc, BinaryOp::Add, &prim(alloc, a)?, &prim(alloc, b)?);
+        let told = binary(
+            alloc,
+            BinaryOp::Add,
+            &primitive(alloc, a)?,
+            &primitive(alloc, b)?,
+        );
         assert_eq!(rt; row_of(&told), answer, "{a:?} + {b:?}");
     }
     let mut whole = Text::of(alloc, "ab")?;
@@ -104,9 +109,9 @@ fn texts_are_joined(rt: HostRuntime) -> Result<(), Fail> {
         whole = whole.join(alloc, &whole)?;
     }
     let (whole, empty, one) = (
-        Prim::Str(whole),
-        prim(alloc, Row::Str(""))?,
-        Prim::Number(1),
+        Primitive::Str(whole),
+        primitive(alloc, Row::Str(""))?,
+        Primitive::Number(1),
     );
     assert!(rt; binary(alloc, BinaryOp::Add, &whole, &empty).is_ok());
     assert_eq!(rt;
@@ -165,7 +170,7 @@ fn values_are_compared(rt: HostRuntime) -> Result<(), Fail> {
         (Row::Null, BinaryOp::Same, Row::Undefined, Ok(false)),
         (Row::Null, BinaryOp::NotSame, Row::Undefined, Ok(true)),
     ] {
-        let told = binary(alloc, op, &prim(alloc, a)?, &prim(alloc, b)?);
+        let told = binary(alloc, op, &primitive(alloc, a)?, &primitive(alloc, b)?);
         assert_eq!(rt;
             row_of(&told),
             answer.map(|b| Row::Bool(b)),
@@ -191,7 +196,7 @@ fn the_same_is_of_one_kind(rt: HostRuntime) -> Result<(), Fail> {
     for (i, a) in all.into_iter().enumerate() {
         for (k, b) in all.into_iter().enumerate() {
             assert_eq!(rt;
-                same(&prim(alloc, a)?, &prim(alloc, b)?),
+                same(&primitive(alloc, a)?, &primitive(alloc, b)?),
                 i == k,
                 "{a:?} and {b:?}"
             );
@@ -201,7 +206,7 @@ fn the_same_is_of_one_kind(rt: HostRuntime) -> Result<(), Fail> {
 }
 
 #[test]
-fn a_value_has_a_truth_a_type_and_a_text(rt: HostRuntime) -> Result<(), Fail> {
+fn a_value_has_a_boolean_a_type_and_a_text(rt: HostRuntime) -> Result<(), Fail> {
     let alloc = rt.alloc();
     for (a, is_true, name, text) in [
         (Row::Undefined, false, "undefined", "undefined"),
@@ -215,8 +220,8 @@ fn a_value_has_a_truth_a_type_and_a_text(rt: HostRuntime) -> Result<(), Fail> {
         (Row::Str("0"), true, "string", "0"),
         (Row::Str("é "), true, "string", "é "),
     ] {
-        let value = prim(alloc, a)?;
-        assert_eq!(rt; truth(&value), is_true, "{a:?}");
+        let value = primitive(alloc, a)?;
+        assert_eq!(rt; to_boolean(&value), is_true, "{a:?}");
         assert_eq!(rt;
             row_of(&unary(alloc, UnaryOp::Not, &value)),
             Ok(Row::Bool(!is_true))
@@ -276,7 +281,7 @@ fn a_sign_stands_before_its_operand(rt: HostRuntime) -> Result<(), Fail> {
         (UnaryOp::Plus, Row::Str("\u{2003}5"), range),
         (UnaryOp::Plus, Row::Str("\u{663}"), range),
     ] {
-        let told = unary(alloc, op, &prim(alloc, a)?);
+        let told = unary(alloc, op, &primitive(alloc, a)?);
         assert_eq!(rt;
             row_of(&told),
             answer.map(|n| Row::Number(n)),

@@ -4,11 +4,11 @@ ghost use Rattle.std.specs.Cmp.Lexicographic.{slice_cmp};
 ghost use Rattle.std.specs.Ordering.{nat_cmp};
 ghost use Rattle.js_ops.specs.Numbers.{Answer};
 ghost use Rattle.js_ops.specs.Operators.{added, Answers, binary_of, joined, on_numbers, order_of};
-ghost use Rattle.js_ops.specs.Prims.{IsPrim};
+ghost use Rattle.js_ops.specs.Primitives.{IsPrimitive};
 
 use crate::arithmetic::{difference, product, quotient, remainder, sum};
 use crate::fault::OpFault;
-use crate::prim::{Prim, equal, same, to_text};
+use crate::primitive::{Primitive, equal, same, to_text};
 use base_text::{BinaryOp, Text, TextFault};
 use std::alloc::Global;
 use std::cmp::Ordering;
@@ -19,19 +19,24 @@ use std::cmp::Ordering;
 /// texts; `- * / %` take two numbers; `< > <= >=` two numbers, or two texts, which go by their scalars. `Range` where
 /// the number is out of range, where the divisor is 0, and where a division leaves something. `TooLong` where the
 /// joined text has over 262,144 bytes. A remainder has the sign of the left operand.
-pub fn binary(alloc: Global, op: BinaryOp, a: &Prim, b: &Prim) -> Result<Prim, OpFault>
+pub fn binary(
+    alloc: Global,
+    op: BinaryOp,
+    a: &Primitive,
+    b: &Primitive,
+) -> Result<Primitive, OpFault>
     ensures row { Answers (binary_of op a.now b.now) result }
-    ensures in_range { IfOk result IsPrim }
+    ensures in_range { IfOk result IsPrimitive }
 {
     match op {
-        BinaryOp::Same => Ok(Prim::Bool(same(a, b))),
-        BinaryOp::NotSame => Ok(Prim::Bool(!same(a, b))),
-        BinaryOp::Equal => Ok(Prim::Bool(equal(a, b))),
-        BinaryOp::NotEqual => Ok(Prim::Bool(!equal(a, b))),
-        BinaryOp::Less => Ok(Prim::Bool(order(a, b)?.is_lt())),
-        BinaryOp::Greater => Ok(Prim::Bool(order(a, b)?.is_gt())),
-        BinaryOp::AtMost => Ok(Prim::Bool(order(a, b)?.is_le())),
-        BinaryOp::AtLeast => Ok(Prim::Bool(order(a, b)?.is_ge())),
+        BinaryOp::Same => Ok(Primitive::Bool(same(a, b))),
+        BinaryOp::NotSame => Ok(Primitive::Bool(!same(a, b))),
+        BinaryOp::Equal => Ok(Primitive::Bool(equal(a, b))),
+        BinaryOp::NotEqual => Ok(Primitive::Bool(!equal(a, b))),
+        BinaryOp::Less => Ok(Primitive::Bool(order(a, b)?.is_lt())),
+        BinaryOp::Greater => Ok(Primitive::Bool(order(a, b)?.is_gt())),
+        BinaryOp::AtMost => Ok(Primitive::Bool(order(a, b)?.is_le())),
+        BinaryOp::AtLeast => Ok(Primitive::Bool(order(a, b)?.is_ge())),
         BinaryOp::Add => add(alloc, a, b),
         BinaryOp::Subtract => {
             let (x, y) = numbers(a, b)?;
@@ -53,46 +58,46 @@ pub fn binary(alloc: Global, op: BinaryOp, a: &Prim, b: &Prim) -> Result<Prim, O
 }
 
 /// The sum of two numbers, or the text of both where one of them is a text.
-fn add(alloc: Global, a: &Prim, b: &Prim) -> Result<Prim, OpFault>
+fn add(alloc: Global, a: &Primitive, b: &Primitive) -> Result<Primitive, OpFault>
     ensures { Answers (added a.now b.now) result }
 {
     match (a, b) {
-        (Prim::Number(x), Prim::Number(y)) => sum(*x, *y),
-        (Prim::Str(s), _) => join(alloc, s, &to_text(alloc, b)?),
-        (_, Prim::Str(t)) => join(alloc, &to_text(alloc, a)?, t),
+        (Primitive::Number(x), Primitive::Number(y)) => sum(*x, *y),
+        (Primitive::Str(s), _) => join(alloc, s, &to_text(alloc, b)?),
+        (_, Primitive::Str(t)) => join(alloc, &to_text(alloc, a)?, t),
         _ => Err(OpFault::Kind),
     }
 }
 
-fn join(alloc: Global, s: &Text, t: &Text) -> Result<Prim, OpFault>
+fn join(alloc: Global, s: &Text, t: &Text) -> Result<Primitive, OpFault>
     ensures { Answers (joined s.now t.now) result }
 {
     match s.join(alloc, t) {
-        Ok(both) => Ok(Prim::Str(both)),
+        Ok(both) => Ok(Primitive::Str(both)),
         Err(TextFault::TooLong) => Err(OpFault::TooLong),
         Err(TextFault::NoMemory) => Err(OpFault::NoMemory),
     }
 }
 
 /// Both operands as numbers.
-fn numbers(a: &Prim, b: &Prim) -> Result<(i64, i64), OpFault>
+fn numbers(a: &Primitive, b: &Primitive) -> Result<(i64, i64), OpFault>
     ensures { (f : ℤ → ℤ → Answer) → MatchResult result (λ both. on_numbers f a.now b.now ≡ f both.0 both.1)
         (λ e. on_numbers f a.now b.now ≡ Err e) }
 {
     match (a, b) {
-        (Prim::Number(x), Prim::Number(y)) => Ok((*x, *y)),
+        (Primitive::Number(x), Primitive::Number(y)) => Ok((*x, *y)),
         _ => Err(OpFault::Kind),
     }
 }
 
 /// The order of two numbers or of two texts.
-fn order(a: &Prim, b: &Prim) -> Result<Ordering, OpFault>
+fn order(a: &Primitive, b: &Primitive) -> Result<Ordering, OpFault>
     ensures { MatchResult result (λ o. order_of a.now b.now ≡ Some o)
         (λ e. (order_of a.now b.now ≡ None) × (e ≡ OpFault.Kind)) }
 {
     match (a, b) {
-        (Prim::Number(x), Prim::Number(y)) => Ok(x.cmp(y)),
-        (Prim::Str(s), Prim::Str(t)) => Ok(order_of_texts(s, t)),
+        (Primitive::Number(x), Primitive::Number(y)) => Ok(x.cmp(y)),
+        (Primitive::Str(s), Primitive::Str(t)) => Ok(order_of_texts(s, t)),
         _ => Err(OpFault::Kind),
     }
 }

@@ -5,18 +5,18 @@ use Rattle.js_syntax.specs.declared.parse_fault.ParseKind.TheVariants.{Unexpecte
 use Rattle.js_syntax.specs.declared.tree.Expr.{Expr}
 use Rattle.js_syntax.specs.declared.tree.Stmt.{Stmt}
 use Rattle.js_syntax.specs.Symbols.{Tokens, next, sees}
-use Rattle.token_readers.specs.Readers.{Outcome, not_taken}
-use Rattle.script_pieces.specs.declared.cursor.Failed.{Failed}
-use Rattle.script_pieces.specs.declared.cursor.Failed.TheVariants.{Fault}
+use Rattle.js_combinators.specs.Readers.{Outcome, not_taken}
+use Rattle.js_cursor.specs.declared.cursor.Failed.{Failed}
+use Rattle.js_cursor.specs.declared.cursor.Failed.TheVariants.{Fault}
 use Rattle.js_parser.specs.declared.level.Part.{Part}
 use Rattle.js_parser.specs.declared.level.Part.TheVariants as part
 use Rattle.js_parser.specs.declared.level.Form.{Form}
 use Rattle.js_parser.specs.declared.level.Form.TheVariants as form
-use Rattle.script_pieces.specs.Reads.{Reads}
+use Rattle.js_cursor.specs.Reads.{Reads}
 use Rattle.js_parser.specs.Nests.{part_of, form_of}
 use Rattle.js_parser.specs.Parts.{begins_part, begins_form}
-use Rattle.script_readers.specs.Statements.{within}
-use Rattle.script_readers.proofs.Turns.{deeper}
+use Rattle.js_reference_parser.specs.StatementsModel.{within}
+use Rattle.js_reference_parser.proofs.Turns.{deeper}
 
 abbrev refusal : {A : Type 0} → Tokens → Bool → Outcome A
 refusal ts b = cond b (Err (TooDeep, ts)) (Err (Unexpected, ts))
@@ -29,11 +29,11 @@ refused {A = A} read q ts false e h k m = subst (λ (x : Failed). Reads read (Er
 
 none_part : (p : Part) (ts : Tokens) → part_of (within 64 0) p ts ≡ not_taken (begins_part p) ts
 unfolding within
-none_part (part.Whole in_is) ts = refl
+none_part (part.Whole in_allowed) ts = refl
 none_part part.Operand ts = refl
 none_part part.Target ts = refl
 none_part part.Callee ts = refl
-none_part part.Applied ts = refl
+none_part part.NewTarget ts = refl
 
 pub no_part : (levels : ℕ) (p : Part) (ts : Tokens) → levels ≡ 0 → part_of (within 64 levels) p ts ≡ not_taken (begins_part p) ts
 no_part levels p ts e = ap (λ (n : ℕ). part_of (within 64 n) p ts) e ∙ none_part p ts

@@ -2,12 +2,12 @@
 use Rattle.std.proofs.Common.{ℕ, suc, Bool, Err, sym, ap, ◌∙◌}
 use Rattle.js_syntax.specs.declared.token.Token.{Token}
 use Rattle.js_syntax.specs.Symbols.{Tokens}
-use Rattle.token_readers.specs.Readers.{Reader, chain}
-use Rattle.script_readers.specs.Expressions.{denied as none_left}
-use Rattle.script_readers.proofs.Links.{link_denied}
-use Rattle.script_pieces.specs.declared.cursor.Failed.{Failed}
-use Rattle.script_pieces.specs.declared.cursor.Failed.TheVariants.{NoMemory, Fault}
-use Rattle.script_pieces.specs.Reads.{Reads, Undenied}
+use Rattle.js_combinators.specs.Readers.{Reader, chain}
+use Rattle.js_reference_parser.specs.ExpressionsModel.{denied as none_left}
+use Rattle.js_reference_parser.proofs.Links.{link_denied}
+use Rattle.js_cursor.specs.declared.cursor.Failed.{Failed}
+use Rattle.js_cursor.specs.declared.cursor.Failed.TheVariants.{NoMemory, Fault}
+use Rattle.js_cursor.specs.Reads.{Reads, Undenied}
 
 pub reads_denied : {A : Type 0} (left n : ℕ) (q : Token → Bool) (step : A → Token → Reader A) (a : A) (ts : Tokens) (x : Failed) → Undenied left ts (Err x) → Reads (chain (suc n) (none_left left) q step a ts) (Err x) ts
 reads_denied left n q step a ts NoMemory h = tt

@@ -2,10 +2,10 @@
 use Rattle.std.proofs.Common.{◌≡◌, ℕ, Err, ap, subst, ◌∙◌, sym}
 use Rattle.js_syntax.specs.declared.parse_fault.ParseKind.{ParseKind}
 use Rattle.js_syntax.specs.Symbols.{Tokens}
-use Rattle.script_readers.specs.Statements.{top, finish_after, script}
-use Rattle.script_pieces.specs.declared.cursor.Failed.{Failed}
-use Rattle.script_pieces.specs.declared.cursor.Failed.TheVariants.{Fault}
-use Rattle.script_pieces.specs.Reads.{Reads}
+use Rattle.js_reference_parser.specs.StatementsModel.{top, finish_after, script}
+use Rattle.js_cursor.specs.declared.cursor.Failed.{Failed}
+use Rattle.js_cursor.specs.declared.cursor.Failed.TheVariants.{Fault}
+use Rattle.js_cursor.specs.Reads.{Reads}
 
 pub failed : (chains levels : ℕ) (ts old rest : Tokens) (kind : ParseKind) (e : Failed) → old ≡ ts → e ≡ Fault kind → Reads (top chains levels old) (Err e) rest → script chains levels ts ≡ Err (kind, rest)
 unfolding script

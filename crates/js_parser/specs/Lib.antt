@@ -1,5 +1,4 @@
-pub mod Answers
 pub mod Nests
 pub mod Parts
-pub mod Pieces
-pub mod Heads
+pub mod ExpressionPartsModel
+pub mod ForHeadsModel

@@ -7,16 +7,16 @@ use Rattle.js_parser.specs.declared.level.Part.{Part}
 use Rattle.js_parser.specs.declared.level.Part.TheVariants as part
 use Rattle.js_parser.specs.declared.level.Form.{Form}
 use Rattle.js_parser.specs.declared.level.Form.TheVariants as form
-use Rattle.script_readers.specs.Expressions.{expr_firsts, base_firsts}
-use Rattle.script_readers.specs.Statements.{begins_stmt}
+use Rattle.js_reference_parser.specs.ExpressionsModel.{expr_firsts, base_firsts}
+use Rattle.js_reference_parser.specs.StatementsModel.{begins_stmt}
 
 -- what begins a part of an expression
 abbrev pub begins_part : Part → Token → Bool
-begins_part (part.Whole in_is) = among expr_firsts
+begins_part (part.Whole in_allowed) = among expr_firsts
 begins_part part.Operand = among expr_firsts
 begins_part part.Target = among base_firsts
 begins_part part.Callee = among base_firsts
-begins_part part.Applied = among base_firsts
+begins_part part.NewTarget = among base_firsts
 
 -- what begins a statement of a kind
 abbrev pub begins_form : Form → Bool → Bool → Token → Bool

@@ -1,17 +1,15 @@
-//! The forms at one level. What stands one level deeper is read by function values, so that each form is
+//! The forms at one level. The parts one level deeper are read by function values, so that each form is
 //! proved by itself.
+ghost use Rattle.js_syntax.specs.declared.limits.TheConstants.{CHAIN_LIMIT};
 ghost use Rattle.std.specs.Prelude.{◌≡◌, ℕ, if◌then◌else◌};
-ghost use Rattle.script_pieces.specs.Reads.{Reads};
+ghost use Rattle.js_cursor.specs.Reads.{Reads};
 ghost use Rattle.js_parser.specs.Nests.{Deeper};
-ghost use Rattle.script_readers.specs.Statements as spec;
+ghost use Rattle.js_reference_parser.specs.StatementsModel as spec;
 
+use js_cursor::{Cursor, Failed};
 use js_syntax::{Expr, ParseKind, Property, Stmt};
-use script_pieces::{Cursor, Failed};
 use sqlite_items::Boxed;
 use std::alloc::Global;
-
-/// How many operators a chain and how many suffixes an expression may have.
-pub const CHAINS: usize = 64;
 
 /// Which part of an expression is read one level deeper.
 #[derive(Clone, Copy)]
@@ -25,7 +23,7 @@ pub enum Part {
     /// What a `new` is applied to.
     Callee,
     /// What a `new` is applied to in the operand of a `++` or `--` before it.
-    Applied,
+    NewTarget,
 }
 
 /// Which kind of statement is read one level deeper.
@@ -95,17 +93,17 @@ impl<
     S: Fn(Global, &mut Cursor<'_>, usize, Form, bool, bool) -> Result<Stmt, Failed>,
 > Level<E, M, S> {
     /// An expression one level deeper.
-    pub fn expr(&self, tokens: &mut Cursor<'_>, in_is: bool) -> Result<Boxed<Expr>, Failed>
+    pub fn expr(&self, tokens: &mut Cursor<'_>, in_allowed: bool) -> Result<Boxed<Expr>, Failed>
         requires { ⟦<Self as Nests>⟧.nests self.now }
-        ensures { Reads ((spec.within CHAINS self.now.left).expr in_is tokens.old) result tokens.new }
+        ensures { Reads ((spec.within CHAIN_LIMIT self.now.left).expr in_allowed tokens.old) result tokens.new }
     {
-        (self.expr)(self.alloc, tokens, self.left, Part::Whole(in_is))
+        (self.expr)(self.alloc, tokens, self.left, Part::Whole(in_allowed))
     }
 
     /// The operand of an operator before it, one level deeper.
     pub fn operand(&self, tokens: &mut Cursor<'_>) -> Result<Boxed<Expr>, Failed>
         requires { ⟦<Self as Nests>⟧.nests self.now }
-        ensures { Reads ((spec.within CHAINS self.now.left).operand tokens.old) result tokens.new }
+        ensures { Reads ((spec.within CHAIN_LIMIT self.now.left).operand tokens.old) result tokens.new }
     {
         (self.expr)(self.alloc, tokens, self.left, Part::Operand)
     }
@@ -113,7 +111,7 @@ impl<
     /// The operand of a `++` or `--` before it, one level deeper.
     pub fn target(&self, tokens: &mut Cursor<'_>) -> Result<Boxed<Expr>, Failed>
         requires { ⟦<Self as Nests>⟧.nests self.now }
-        ensures { Reads ((spec.within CHAINS self.now.left).target tokens.old) result tokens.new }
+        ensures { Reads ((spec.within CHAIN_LIMIT self.now.left).target tokens.old) result tokens.new }
     {
         (self.expr)(self.alloc, tokens, self.left, Part::Target)
     }
@@ -121,23 +119,23 @@ impl<
     /// What a `new` is applied to, one level deeper.
     pub fn callee_below(&self, tokens: &mut Cursor<'_>) -> Result<Boxed<Expr>, Failed>
         requires { ⟦<Self as Nests>⟧.nests self.now }
-        ensures { Reads ((spec.within CHAINS self.now.left).callee tokens.old) result tokens.new }
+        ensures { Reads ((spec.within CHAIN_LIMIT self.now.left).callee tokens.old) result tokens.new }
     {
         (self.expr)(self.alloc, tokens, self.left, Part::Callee)
     }
 
     /// What a `new` is applied to in the operand of a `++` or `--`, one level deeper.
-    pub fn applied_below(&self, tokens: &mut Cursor<'_>) -> Result<Boxed<Expr>, Failed>
+    pub fn new_target_below(&self, tokens: &mut Cursor<'_>) -> Result<Boxed<Expr>, Failed>
         requires { ⟦<Self as Nests>⟧.nests self.now }
-        ensures { Reads ((spec.within CHAINS self.now.left).applied tokens.old) result tokens.new }
+        ensures { Reads ((spec.within CHAIN_LIMIT self.now.left).new_target tokens.old) result tokens.new }
     {
-        (self.expr)(self.alloc, tokens, self.left, Part::Applied)
+        (self.expr)(self.alloc, tokens, self.left, Part::NewTarget)
     }
 
     /// A member of an object literal, one level deeper.
     pub fn member_below(&self, tokens: &mut Cursor<'_>) -> Result<Property, Failed>
         requires { ⟦<Self as Nests>⟧.nests self.now }
-        ensures { Reads ((spec.within CHAINS self.now.left).member tokens.old) result tokens.new }
+        ensures { Reads ((spec.within CHAIN_LIMIT self.now.left).member tokens.old) result tokens.new }
     {
         (self.member)(self.alloc, tokens, self.left)
     }
@@ -150,7 +148,7 @@ impl<
         in_loop: bool,
     ) -> Result<Stmt, Failed>
         requires { ⟦<Self as Nests>⟧.nests self.now }
-        ensures { Reads ((spec.within CHAINS self.now.left).stmt in_function in_loop tokens.old) result tokens.new }
+        ensures { Reads ((spec.within CHAIN_LIMIT self.now.left).stmt in_function in_loop tokens.old) result tokens.new }
     {
         (self.stmt)(
             self.alloc,
@@ -163,14 +161,14 @@ impl<
     }
 
     /// A block one level deeper.
-    pub fn block(
+    pub fn block_below(
         &self,
         tokens: &mut Cursor<'_>,
         in_function: bool,
         in_loop: bool,
     ) -> Result<Stmt, Failed>
         requires { ⟦<Self as Nests>⟧.nests self.now }
-        ensures { Reads ((spec.within CHAINS self.now.left).block in_function in_loop tokens.old) result tokens.new }
+        ensures { Reads ((spec.within CHAIN_LIMIT self.now.left).block in_function in_loop tokens.old) result tokens.new }
     {
         (self.stmt)(
             self.alloc,

@@ -1,12 +1,13 @@
 //! `for` (ECMAScript, 14.7.4 and 14.7.5).
+ghost use Rattle.js_syntax.specs.declared.limits.TheConstants.{CHAIN_LIMIT};
 ghost use Rattle.std.specs.Prelude.{◌≡◌};
-ghost use Rattle.script_pieces.specs.Reads.{Reads};
-ghost use Rattle.js_parser.specs.Heads as heads;
-ghost use Rattle.script_readers.specs.Statements as spec;
+ghost use Rattle.js_cursor.specs.Reads.{Reads};
+ghost use Rattle.js_parser.specs.ForHeadsModel as heads;
+ghost use Rattle.js_reference_parser.specs.StatementsModel as spec;
 
-use crate::level::{CHAINS, Form, Level, Nests, Part};
+use crate::level::{Form, Level, Nests, Part};
+use js_cursor::{Cursor, Failed, make, name};
 use js_syntax::{Declaration, Expr, ForStart, ForTarget, Property, Stmt, Symbol};
-use script_pieces::{Cursor, Failed, make, name};
 use sqlite_items::{Boxed, Items};
 use std::alloc::Global;
 
@@ -26,14 +27,14 @@ impl<
     S: Fn(Global, &mut Cursor<'_>, usize, Form, bool, bool) -> Result<Stmt, Failed>,
 > Level<E, M, S> {
     /// An expression and the token that closes it, or that token alone.
-    #[tactic(auto, unfolding(script_readers::specs::Statements::optional))]
+    #[tactic(auto, unfolding(js_reference_parser::specs::StatementsModel::optional))]
     pub fn optional(
         &self,
         tokens: &mut Cursor<'_>,
         close: Symbol,
     ) -> Result<Option<Boxed<Expr>>, Failed>
         requires { ⟦<Self as Nests>⟧.nests self.now }
-        ensures { Reads (spec.optional CHAINS self.now.left (spec.within CHAINS self.now.left) close tokens.old) result tokens.new }
+        ensures { Reads (spec.optional CHAIN_LIMIT self.now.left (spec.within CHAIN_LIMIT self.now.left) close tokens.old) result tokens.new }
     {
         if let Some(_) = tokens.eat(close) {
             return Ok(None);
@@ -43,7 +44,7 @@ impl<
         Ok(Some(value))
     }
 
-    /// A `for` behind its head.
+    /// Parses the rest of a `for` statement after its head.
     pub fn for_body(
         &self,
         tokens: &mut Cursor<'_>,
@@ -53,7 +54,7 @@ impl<
         step: Option<Boxed<Expr>>,
     ) -> Result<Stmt, Failed>
         requires { ⟦<Self as Nests>⟧.nests self.now }
-        ensures { Reads (heads.for_body (spec.within CHAINS self.now.left) in_function start test step tokens.old) result tokens.new }
+        ensures { Reads (heads.for_body (spec.within CHAIN_LIMIT self.now.left) in_function start test step tokens.old) result tokens.new }
     {
         let body = self.stmt(tokens, in_function, true)?;
         let body = Boxed::new(self.alloc, body)?;
@@ -61,7 +62,7 @@ impl<
         Ok(Stmt::For(start.into_inner(), test, step, body))
     }
 
-    /// A `for` behind the second semicolon of its head.
+    /// Parses the rest of a `for` statement after the second semicolon of its head.
     pub fn for_step(
         &self,
         tokens: &mut Cursor<'_>,
@@ -70,14 +71,14 @@ impl<
         test: Option<Boxed<Expr>>,
     ) -> Result<Stmt, Failed>
         requires { ⟦<Self as Nests>⟧.nests self.now }
-        ensures { Reads (heads.for_step CHAINS self.now.left (spec.within CHAINS self.now.left) in_function start test tokens.old) result tokens.new }
+        ensures { Reads (heads.for_step CHAIN_LIMIT self.now.left (spec.within CHAIN_LIMIT self.now.left) in_function start test tokens.old) result tokens.new }
     {
-        let step = self.optional(tokens, Symbol::Close)?;
+        let step = self.optional(tokens, Symbol::CloseParen)?;
         self.for_body(tokens, in_function, start, test, step)
     }
 
-    /// A `for` behind the first semicolon of its head.
-    #[tactic(auto, unfolding(script_readers::specs::Statements::for_rest))]
+    /// Parses the rest of a `for` statement after the first semicolon of its head.
+    #[tactic(auto, unfolding(js_reference_parser::specs::StatementsModel::for_rest))]
     pub fn for_rest(
         &self,
         tokens: &mut Cursor<'_>,
@@ -85,13 +86,13 @@ impl<
         start: Boxed<ForStart>,
     ) -> Result<Stmt, Failed>
         requires { ⟦<Self as Nests>⟧.nests self.now }
-        ensures { Reads (spec.for_rest CHAINS self.now.left (spec.within CHAINS self.now.left) in_function start tokens.old) result tokens.new }
+        ensures { Reads (spec.for_rest CHAIN_LIMIT self.now.left (spec.within CHAIN_LIMIT self.now.left) in_function start tokens.old) result tokens.new }
     {
         let test = self.optional(tokens, Symbol::Semicolon)?;
         self.for_step(tokens, in_function, start, test)
     }
 
-    /// A `for` over keys behind its head.
+    /// Parses the rest of a `for`-`in` statement after its head.
     pub fn each_key(
         &self,
         tokens: &mut Cursor<'_>,
@@ -100,31 +101,31 @@ impl<
         object: Boxed<Expr>,
     ) -> Result<Stmt, Failed>
         requires { ⟦<Self as Nests>⟧.nests self.now }
-        ensures { Reads (heads.each_key (spec.within CHAINS self.now.left) in_function target object tokens.old) result tokens.new }
+        ensures { Reads (heads.each_key (spec.within CHAIN_LIMIT self.now.left) in_function target object tokens.old) result tokens.new }
     {
         let body = self.stmt(tokens, in_function, true)?;
         let body = Boxed::new(self.alloc, body)?;
         Ok(Stmt::ForIn(target.into_inner(), object.into_inner(), body))
     }
 
-    /// A `for` over keys behind its `in`.
-    #[tactic(auto, unfolding(script_readers::specs::Statements::over_keys))]
-    pub fn over_keys(
+    /// Parses the rest of a `for`-`in` statement after its `in`.
+    #[tactic(auto, unfolding(js_reference_parser::specs::StatementsModel::for_in))]
+    pub fn for_in(
         &self,
         tokens: &mut Cursor<'_>,
         in_function: bool,
         target: Boxed<ForTarget>,
     ) -> Result<Stmt, Failed>
         requires { ⟦<Self as Nests>⟧.nests self.now }
-        ensures { Reads (spec.over_keys CHAINS self.now.left (spec.within CHAINS self.now.left) in_function target tokens.old) result tokens.new }
+        ensures { Reads (spec.for_in CHAIN_LIMIT self.now.left (spec.within CHAIN_LIMIT self.now.left) in_function target tokens.old) result tokens.new }
     {
         let object = self.assign(tokens, true)?;
-        tokens.expect(Symbol::Close)?;
+        tokens.expect(Symbol::CloseParen)?;
         self.each_key(tokens, in_function, target, object)
     }
 
-    /// A `for` behind the first declaration of its head.
-    #[tactic(auto, unfolding(script_readers::specs::Statements::for_variables))]
+    /// Parses the rest of a `for` statement after the first declaration of its head.
+    #[tactic(auto, unfolding(js_reference_parser::specs::StatementsModel::for_variables))]
     pub fn for_variables(
         &self,
         tokens: &mut Cursor<'_>,
@@ -132,7 +133,7 @@ impl<
         first: Declaration,
     ) -> Result<Stmt, Failed>
         requires { ⟦<Self as Nests>⟧.nests self.now }
-        ensures { Reads (spec.for_variables CHAINS self.now.left (spec.within CHAINS self.now.left) in_function first tokens.old) result tokens.new }
+        ensures { Reads (spec.for_variables CHAIN_LIMIT self.now.left (spec.within CHAIN_LIMIT self.now.left) in_function first tokens.old) result tokens.new }
     {
         let mut found = Items::new(self.alloc);
         found.push(first)?;
@@ -142,16 +143,16 @@ impl<
         self.for_rest(tokens, in_function, start)
     }
 
-    /// A `for` behind the `var` of its head.
-    #[tactic(auto, unfolding(script_readers::specs::Statements::for_variable))]
+    /// Parses the rest of a `for` statement after the `var` of its head.
+    #[tactic(auto, unfolding(js_reference_parser::specs::StatementsModel::for_variable))]
     pub fn for_variable(&self, tokens: &mut Cursor<'_>, in_function: bool) -> Result<Stmt, Failed>
         requires { ⟦<Self as Nests>⟧.nests self.now }
-        ensures { Reads (spec.for_variable CHAINS self.now.left (spec.within CHAINS self.now.left) in_function tokens.old) result tokens.new }
+        ensures { Reads (spec.for_variable CHAIN_LIMIT self.now.left (spec.within CHAIN_LIMIT self.now.left) in_function tokens.old) result tokens.new }
     {
         let name = name(tokens)?;
         if let Some(_) = tokens.eat(Symbol::In) {
             let target = Boxed::new(self.alloc, ForTarget::Var(name))?;
-            return self.over_keys(tokens, in_function, target);
+            return self.for_in(tokens, in_function, target);
         }
         if let Some(_) = tokens.eat(Symbol::Assign) {
             let value = self.assign(tokens, false)?;
@@ -162,16 +163,16 @@ impl<
     }
 
     /// A `for` whose head begins with an expression.
-    #[tactic(auto, unfolding(script_readers::specs::Statements::for_expression))]
+    #[tactic(auto, unfolding(js_reference_parser::specs::StatementsModel::for_expression))]
     pub fn for_expression(&self, tokens: &mut Cursor<'_>, in_function: bool) -> Result<Stmt, Failed>
         requires { ⟦<Self as Nests>⟧.nests self.now }
-        ensures { Reads (spec.for_expression CHAINS self.now.left (spec.within CHAINS self.now.left) in_function tokens.old) result tokens.new }
+        ensures { Reads (spec.for_expression CHAIN_LIMIT self.now.left (spec.within CHAIN_LIMIT self.now.left) in_function tokens.old) result tokens.new }
     {
         let first = self.assign(tokens, false)?;
         if let Some(_) = tokens.eat_where(Symbol::In, make::is_target(first.get())) {
             let target = ForTarget::Expression(first.into_inner());
             let target = Boxed::new(self.alloc, target)?;
-            return self.over_keys(tokens, in_function, target);
+            return self.for_in(tokens, in_function, target);
         }
         tokens.expect(Symbol::Semicolon)?;
         let start = ForStart::Expression(first.into_inner());
@@ -179,11 +180,11 @@ impl<
         self.for_rest(tokens, in_function, start)
     }
 
-    /// A `for` behind the bracket of its head.
-    #[tactic(auto, unfolding(script_readers::specs::Statements::for_head))]
+    /// Parses the rest of a `for` statement after the bracket of its head.
+    #[tactic(auto, unfolding(js_reference_parser::specs::StatementsModel::for_head))]
     pub fn for_head(&self, tokens: &mut Cursor<'_>, in_function: bool) -> Result<Stmt, Failed>
         requires { ⟦<Self as Nests>⟧.nests self.now }
-        ensures { Reads (spec.for_head CHAINS self.now.left (spec.within CHAINS self.now.left) in_function tokens.old) result tokens.new }
+        ensures { Reads (spec.for_head CHAIN_LIMIT self.now.left (spec.within CHAIN_LIMIT self.now.left) in_function tokens.old) result tokens.new }
     {
         if let Some(_) = tokens.eat(Symbol::Semicolon) {
             let start = Boxed::new(self.alloc, ForStart::Nothing)?;
@@ -195,13 +196,13 @@ impl<
         self.for_expression(tokens, in_function)
     }
 
-    /// A `for` behind its word.
-    #[tactic(auto, unfolding(script_readers::specs::Statements::each_turn))]
+    /// Parses the rest of a `for` statement; the keyword is already consumed.
+    #[tactic(auto, unfolding(js_reference_parser::specs::StatementsModel::each_turn))]
     pub fn each_turn(&self, tokens: &mut Cursor<'_>, in_function: bool) -> Result<Stmt, Failed>
         requires { ⟦<Self as Nests>⟧.nests self.now }
-        ensures { Reads (spec.each_turn CHAINS self.now.left (spec.within CHAINS self.now.left) in_function tokens.old) result tokens.new }
+        ensures { Reads (spec.each_turn CHAIN_LIMIT self.now.left (spec.within CHAIN_LIMIT self.now.left) in_function tokens.old) result tokens.new }
     {
-        tokens.expect(Symbol::Open)?;
+        tokens.expect(Symbol::OpenParen)?;
         self.for_head(tokens, in_function)
     }
 }

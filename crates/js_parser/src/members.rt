@@ -1,12 +1,13 @@
 //! Members of object literals.
-ghost use Rattle.script_pieces.specs.Reads.{Reads};
-ghost use Rattle.script_readers.specs.Expressions as ex;
-ghost use Rattle.js_parser.specs.Pieces as pieces;
-ghost use Rattle.script_readers.specs.Statements as spec;
+ghost use Rattle.js_syntax.specs.declared.limits.TheConstants.{CHAIN_LIMIT};
+ghost use Rattle.js_cursor.specs.Reads.{Reads};
+ghost use Rattle.js_reference_parser.specs.ExpressionsModel as ex;
+ghost use Rattle.js_parser.specs.ExpressionPartsModel as model;
+ghost use Rattle.js_reference_parser.specs.StatementsModel as spec;
 
-use crate::level::{CHAINS, Form, Level, Nests, Part};
+use crate::level::{Form, Level, Nests, Part};
+use js_cursor::{Cursor, Failed, Set, name};
 use js_syntax::{Expr, Function, ParseKind, Property, Shared, Stmt, Symbol, Token};
-use script_pieces::{Cursor, Failed, Set, name};
 use sqlite_items::{Boxed, Items};
 use std::alloc::Global;
 
@@ -15,23 +16,23 @@ impl<
     M: Fn(Global, &mut Cursor<'_>, usize) -> Result<Property, Failed>,
     S: Fn(Global, &mut Cursor<'_>, usize, Form, bool, bool) -> Result<Stmt, Failed>,
 > Level<E, M, S> {
-    #[tactic(auto, unfolding(script_readers::specs::Expressions::valued))]
+    #[tactic(auto, unfolding(js_reference_parser::specs::ExpressionsModel::valued))]
     fn valued(&self, tokens: &mut Cursor<'_>, key: &Token) -> Result<Property, Failed>
         requires { ⟦<Self as Nests>⟧.nests self.now }
-        ensures { Reads (ex.valued CHAINS self.now.left (spec.within CHAINS self.now.left) key.now.text tokens.old) result tokens.new }
+        ensures { Reads (ex.valued CHAIN_LIMIT self.now.left (spec.within CHAIN_LIMIT self.now.left) key.now.text tokens.old) result tokens.new }
     {
         let value = self.assign(tokens, true)?;
         let key = key.text.share()?;
         Ok(Property::Value(key, value.into_inner()))
     }
 
-    #[tactic(auto, unfolding(script_readers::specs::Expressions::getter))]
+    #[tactic(auto, unfolding(js_reference_parser::specs::ExpressionsModel::getter))]
     fn getter(&self, tokens: &mut Cursor<'_>, key: &Token) -> Result<Property, Failed>
         requires { ⟦<Self as Nests>⟧.nests self.now }
-        ensures { Reads (ex.getter (spec.within CHAINS self.now.left) key.now.text tokens.old) result tokens.new }
+        ensures { Reads (ex.getter (spec.within CHAIN_LIMIT self.now.left) key.now.text tokens.old) result tokens.new }
     {
-        tokens.expect(Symbol::Open)?;
-        tokens.expect(Symbol::Close)?;
+        tokens.expect(Symbol::OpenParen)?;
+        tokens.expect(Symbol::CloseParen)?;
         let body = self.body(tokens)?;
         let key = key.text.share()?;
         let params = Items::new(self.alloc);
@@ -43,14 +44,14 @@ impl<
         Ok(Property::Get(key, Shared::new(self.alloc, function)?))
     }
 
-    #[tactic(auto, unfolding(script_readers::specs::Expressions::setter))]
+    #[tactic(auto, unfolding(js_reference_parser::specs::ExpressionsModel::setter))]
     fn setter(&self, tokens: &mut Cursor<'_>, key: &Token) -> Result<Property, Failed>
         requires { ⟦<Self as Nests>⟧.nests self.now }
-        ensures { Reads (ex.setter (spec.within CHAINS self.now.left) key.now.text tokens.old) result tokens.new }
+        ensures { Reads (ex.setter (spec.within CHAIN_LIMIT self.now.left) key.now.text tokens.old) result tokens.new }
     {
-        tokens.expect(Symbol::Open)?;
+        tokens.expect(Symbol::OpenParen)?;
         let param = name(tokens)?;
-        tokens.expect(Symbol::Close)?;
+        tokens.expect(Symbol::CloseParen)?;
         let body = self.body(tokens)?;
         let key = key.text.share()?;
         let mut params = Items::new(self.alloc);
@@ -64,10 +65,10 @@ impl<
     }
 
     /// What stands behind a `get`, which is a key where a colon follows.
-    #[tactic(auto, using(script_readers::proofs::Begun::taken, script_readers::proofs::Begun::passed, script_readers::proofs::Begun::refused))]
+    #[tactic(auto, using(js_reference_parser::proofs::Begun::taken, js_reference_parser::proofs::Begun::passed, js_reference_parser::proofs::Begun::refused))]
     fn after_get(&self, tokens: &mut Cursor<'_>, word: &Token) -> Result<Property, Failed>
         requires { ⟦<Self as Nests>⟧.nests self.now }
-        ensures { Reads (ex.after_get CHAINS self.now.left (spec.within CHAINS self.now.left) word.now.text tokens.old) result tokens.new }
+        ensures { Reads (ex.after_get CHAIN_LIMIT self.now.left (spec.within CHAIN_LIMIT self.now.left) word.now.text tokens.old) result tokens.new }
     {
         if let Some(_) = tokens.eat(Symbol::Colon) {
             return self.valued(tokens, word);
@@ -79,10 +80,10 @@ impl<
     }
 
     /// What stands behind a `set`, which is a key where a colon follows.
-    #[tactic(auto, using(script_readers::proofs::Begun::taken, script_readers::proofs::Begun::passed, script_readers::proofs::Begun::refused))]
+    #[tactic(auto, using(js_reference_parser::proofs::Begun::taken, js_reference_parser::proofs::Begun::passed, js_reference_parser::proofs::Begun::refused))]
     fn after_set(&self, tokens: &mut Cursor<'_>, word: &Token) -> Result<Property, Failed>
         requires { ⟦<Self as Nests>⟧.nests self.now }
-        ensures { Reads (ex.after_set CHAINS self.now.left (spec.within CHAINS self.now.left) word.now.text tokens.old) result tokens.new }
+        ensures { Reads (ex.after_set CHAIN_LIMIT self.now.left (spec.within CHAIN_LIMIT self.now.left) word.now.text tokens.old) result tokens.new }
     {
         if let Some(_) = tokens.eat(Symbol::Colon) {
             return self.valued(tokens, word);
@@ -95,17 +96,17 @@ impl<
 
     fn keyed(&self, tokens: &mut Cursor<'_>, key: &Token) -> Result<Property, Failed>
         requires { ⟦<Self as Nests>⟧.nests self.now }
-        ensures { Reads (pieces.keyed CHAINS self.now.left (spec.within CHAINS self.now.left) key.now.text tokens.old) result tokens.new }
+        ensures { Reads (model.keyed CHAIN_LIMIT self.now.left (spec.within CHAIN_LIMIT self.now.left) key.now.text tokens.old) result tokens.new }
     {
         tokens.expect(Symbol::Colon)?;
         self.valued(tokens, key)
     }
 
     /// A member of an object literal.
-    #[tactic(auto, unfolding(script_readers::specs::Expressions::member))]
+    #[tactic(auto, unfolding(js_reference_parser::specs::ExpressionsModel::member))]
     pub fn member(&self, tokens: &mut Cursor<'_>) -> Result<Property, Failed>
         requires { ⟦<Self as Nests>⟧.nests self.now }
-        ensures { Reads (ex.member CHAINS self.now.left (spec.within CHAINS self.now.left) tokens.old) result tokens.new }
+        ensures { Reads (ex.member CHAIN_LIMIT self.now.left (spec.within CHAIN_LIMIT self.now.left) tokens.old) result tokens.new }
     {
         if let Some(word) = tokens.eat(Symbol::Get) {
             return self.after_get(tokens, word);

@@ -1,14 +1,15 @@
-//! What stands one level deeper, down to the last level.
+//! The parts one level deeper, down to the last level: each form calls these in turn.
+ghost use Rattle.js_syntax.specs.declared.limits.TheConstants.{CHAIN_LIMIT};
 ghost use Rattle.js_syntax.specs.Symbols.{next, sees, among};
 ghost use Rattle.std.specs.Prelude.{◌≡◌};
-ghost use Rattle.script_pieces.specs.Reads.{Reads};
+ghost use Rattle.js_cursor.specs.Reads.{Reads};
 ghost use Rattle.js_parser.specs.Nests.{part_of, form_of};
 ghost use Rattle.js_parser.specs.Parts.{begins_part, begins_form};
-ghost use Rattle.script_readers.specs.Statements as spec;
+ghost use Rattle.js_reference_parser.specs.StatementsModel as spec;
 
-use crate::level::{CHAINS, Form, Level, Part, refuse_part};
+use crate::level::{Form, Level, Part, refuse_part};
+use js_cursor::{Cursor, Failed, Set};
 use js_syntax::{Expr, Property, Stmt, Symbol};
-use script_pieces::{Cursor, Failed, Set};
 use sqlite_items::Boxed;
 use std::alloc::Global;
 
@@ -18,7 +19,7 @@ pub fn begins_part(tokens: &Cursor<'_>, part: Part) -> bool
 {
     match part {
         Part::Whole(_) | Part::Operand => tokens.sees_any(Set::ExprFirsts),
-        Part::Target | Part::Callee | Part::Applied => tokens.sees_any(Set::BaseFirsts),
+        Part::Target | Part::Callee | Part::NewTarget => tokens.sees_any(Set::BaseFirsts),
     }
 }
 
@@ -32,7 +33,7 @@ pub fn begins_form(tokens: &Cursor<'_>, form: Form, in_function: bool, in_loop: 
     }
 }
 
-/// A part of an expression, of so many levels.
+/// A part of an expression, of at most this number of levels.
 #[cycle(parts)]
 pub fn expr(
     alloc: Global,
@@ -40,7 +41,7 @@ pub fn expr(
     levels: usize,
     part: Part,
 ) -> Result<Boxed<Expr>, Failed>
-    ensures { Reads (part_of (spec.within CHAINS levels) part tokens.old) result tokens.new }
+    ensures { Reads (part_of (spec.within CHAIN_LIMIT levels) part tokens.old) result tokens.new }
 {
     if levels == 0 {
         return Err(refuse_part(begins_part(tokens, part)));
@@ -53,18 +54,18 @@ pub fn expr(
         stmt,
     };
     match part {
-        Part::Whole(in_is) => level.assign(tokens, in_is),
+        Part::Whole(in_allowed) => level.assign(tokens, in_allowed),
         Part::Operand => level.unary(tokens),
         Part::Target => level.update_target(tokens),
         Part::Callee => level.callee(tokens),
-        Part::Applied => level.applied(tokens),
+        Part::NewTarget => level.new_target(tokens),
     }
 }
 
-/// A member of an object literal, of so many levels.
+/// A member of an object literal, of at most this number of levels.
 #[cycle(parts)]
 pub fn member(alloc: Global, tokens: &mut Cursor<'_>, levels: usize) -> Result<Property, Failed>
-    ensures { Reads ((spec.within CHAINS levels).member tokens.old) result tokens.new }
+    ensures { Reads ((spec.within CHAIN_LIMIT levels).member tokens.old) result tokens.new }
 {
     if levels == 0 {
         return Err(refuse_part(tokens.sees_any(Set::MemberFirsts)));
@@ -79,7 +80,7 @@ pub fn member(alloc: Global, tokens: &mut Cursor<'_>, levels: usize) -> Result<P
     .member(tokens)
 }
 
-/// A statement, of so many levels.
+/// A statement, of at most this number of levels.
 #[cycle(parts)]
 pub fn stmt(
     alloc: Global,
@@ -89,7 +90,7 @@ pub fn stmt(
     in_function: bool,
     in_loop: bool,
 ) -> Result<Stmt, Failed>
-    ensures { Reads (form_of (spec.within CHAINS levels) form in_function in_loop tokens.old) result tokens.new }
+    ensures { Reads (form_of (spec.within CHAIN_LIMIT levels) form in_function in_loop tokens.old) result tokens.new }
 {
     if levels == 0 {
         return Err(refuse_part(begins_form(tokens, form, in_function, in_loop)));
@@ -103,6 +104,6 @@ pub fn stmt(
     };
     match form {
         Form::Any => level.statement(tokens, in_function, in_loop),
-        Form::Block => level.braces(tokens, in_function, in_loop),
+        Form::Block => level.block(tokens, in_function, in_loop),
     }
 }

@@ -1,12 +1,13 @@
 //! Statements by their first token (ECMAScript, 14).
-ghost use Rattle.script_pieces.specs.Reads.{Reads};
+ghost use Rattle.js_syntax.specs.declared.limits.TheConstants.{CHAIN_LIMIT};
+ghost use Rattle.js_cursor.specs.Reads.{Reads};
 ghost use Rattle.js_syntax.specs.Symbols.{is};
-ghost use Rattle.token_readers.specs.Readers.{begin};
-ghost use Rattle.script_readers.specs.Statements as spec;
+ghost use Rattle.js_combinators.specs.Readers.{begin};
+ghost use Rattle.js_reference_parser.specs.StatementsModel as spec;
 
-use crate::level::{CHAINS, Form, Level, Nests, Part};
+use crate::level::{Form, Level, Nests, Part};
+use js_cursor::{Cursor, Failed};
 use js_syntax::{Expr, ParseKind, Property, Stmt, Symbol};
-use script_pieces::{Cursor, Failed};
 use sqlite_items::Boxed;
 use std::alloc::Global;
 
@@ -16,10 +17,10 @@ impl<
     S: Fn(Global, &mut Cursor<'_>, usize, Form, bool, bool) -> Result<Stmt, Failed>,
 > Level<E, M, S> {
     /// An expression as a statement.
-    #[tactic(auto, unfolding(script_readers::specs::Statements::plain_statement))]
+    #[tactic(auto, unfolding(js_reference_parser::specs::StatementsModel::plain_statement))]
     pub fn plain_statement(&self, tokens: &mut Cursor<'_>) -> Result<Stmt, Failed>
         requires { ⟦<Self as Nests>⟧.nests self.now }
-        ensures { Reads (spec.plain_statement CHAINS self.now.left (spec.within CHAINS self.now.left) tokens.old) result tokens.new }
+        ensures { Reads (spec.plain_statement CHAIN_LIMIT self.now.left (spec.within CHAIN_LIMIT self.now.left) tokens.old) result tokens.new }
     {
         let value = self.assign(tokens, true)?;
         tokens.ends()?;
@@ -27,7 +28,7 @@ impl<
     }
 
     /// A `try`, or an expression.
-    #[tactic(auto, unfolding(token_readers::specs::Readers::begin))]
+    #[tactic(auto, unfolding(js_combinators::specs::Readers::begin))]
     pub fn try_or_plain(
         &self,
         tokens: &mut Cursor<'_>,
@@ -35,13 +36,14 @@ impl<
         in_loop: bool,
     ) -> Result<Stmt, Failed>
         requires { ⟦<Self as Nests>⟧.nests self.now }
-        ensures { Reads (begin self.now.left (is Symbol.Try) (λ t. spec.try_ (spec.within CHAINS self.now.left) in_function in_loop) (spec.plain_statement CHAINS self.now.left (spec.within CHAINS self.now.left)) tokens.old) result tokens.new }
+        ensures { Reads (begin self.now.left (is Symbol.Try) (λ t. spec.try_statement (spec.within CHAIN_LIMIT self.now.left) in_function in_loop)
+            (spec.plain_statement CHAIN_LIMIT self.now.left (spec.within CHAIN_LIMIT self.now.left)) tokens.old) result tokens.new }
     {
         if self.left == 0 && tokens.sees(Symbol::Try) {
             return Err(Failed::Fault(ParseKind::TooDeep));
         }
         if let Some(_) = tokens.eat(Symbol::Try) {
-            return self.attempt(tokens, in_function, in_loop);
+            return self.try_statement(tokens, in_function, in_loop);
         }
         self.plain_statement(tokens)
     }
@@ -54,18 +56,18 @@ impl<
         in_loop: bool,
     ) -> Result<Stmt, Failed>
         requires { ⟦<Self as Nests>⟧.nests self.now }
-        ensures { Reads (spec.words_from CHAINS self.now.left (spec.within CHAINS self.now.left) in_function in_loop tokens.old) result tokens.new }
+        ensures { Reads (spec.words_from CHAIN_LIMIT self.now.left (spec.within CHAIN_LIMIT self.now.left) in_function in_loop tokens.old) result tokens.new }
     {
         if let Some(_) = tokens.eat_where(Symbol::Break, in_loop) {
-            tokens.halts()?;
+            tokens.end_of_jump()?;
             return Ok(Stmt::Break);
         }
         if let Some(_) = tokens.eat_where(Symbol::Continue, in_loop) {
-            tokens.halts()?;
+            tokens.end_of_jump()?;
             return Ok(Stmt::Continue);
         }
         if let Some(_) = tokens.eat_where(Symbol::Return, in_function) {
-            return self.answer(tokens);
+            return self.return_statement(tokens);
         }
         if let Some(_) = tokens.eat(Symbol::Throw) {
             return self.throw(tokens);
@@ -74,7 +76,7 @@ impl<
     }
 
     /// A statement that may have a statement or a body as its part.
-    #[tactic(auto, unfolding(token_readers::specs::Readers::begin))]
+    #[tactic(auto, unfolding(js_combinators::specs::Readers::begin))]
     pub fn nested(
         &self,
         tokens: &mut Cursor<'_>,
@@ -82,7 +84,7 @@ impl<
         in_loop: bool,
     ) -> Result<Stmt, Failed>
         requires { ⟦<Self as Nests>⟧.nests self.now }
-        ensures { Reads (spec.nested_from CHAINS self.now.left (spec.within CHAINS self.now.left) in_function in_loop tokens.old) result tokens.new }
+        ensures { Reads (spec.nested_from CHAIN_LIMIT self.now.left (spec.within CHAIN_LIMIT self.now.left) in_function in_loop tokens.old) result tokens.new }
     {
         if self.left == 0 && tokens.begins_nested() {
             return Err(Failed::Fault(ParseKind::TooDeep));
@@ -91,10 +93,10 @@ impl<
             return self.function_declared(tokens);
         }
         if let Some(_) = tokens.eat(Symbol::If) {
-            return self.branch(tokens, in_function, in_loop);
+            return self.if_statement(tokens, in_function, in_loop);
         }
         if let Some(_) = tokens.eat(Symbol::While) {
-            return self.repetition(tokens, in_function);
+            return self.while_statement(tokens, in_function);
         }
         if let Some(_) = tokens.eat(Symbol::For) {
             return self.each_turn(tokens, in_function);
@@ -103,7 +105,7 @@ impl<
     }
 
     /// A statement of this level.
-    #[tactic(auto, unfolding(script_readers::specs::Statements::statement))]
+    #[tactic(auto, unfolding(js_reference_parser::specs::StatementsModel::statement))]
     pub fn statement(
         &self,
         tokens: &mut Cursor<'_>,
@@ -111,7 +113,7 @@ impl<
         in_loop: bool,
     ) -> Result<Stmt, Failed>
         requires { ⟦<Self as Nests>⟧.nests self.now }
-        ensures { Reads (spec.statement CHAINS self.now.left (spec.within CHAINS self.now.left) in_function in_loop tokens.old) result tokens.new }
+        ensures { Reads (spec.statement CHAIN_LIMIT self.now.left (spec.within CHAIN_LIMIT self.now.left) in_function in_loop tokens.old) result tokens.new }
     {
         if let Some(_) = tokens.eat(Symbol::Semicolon) {
             return Ok(Stmt::Empty);

@@ -1,5 +1,6 @@
 -- Which tokens spell which tree, form by form (ECMAScript, 13 to 15, without what this language leaves out).
--- Each form is as long as it can be: what stands behind it doesn't go on with it. So an `else` belongs to the nearest `if`, and a semicolon is left out before a token on a new line just where that token can't go on with the statement.
+-- Each form is as long as it can be: what follows doesn't continue it. So an `else` belongs to the nearest `if`, and a semicolon is left out
+-- before a token on a new line just where that token can't continue the statement.
 use Rattle.std.specs.Prelude.{◌≡◌, ℕ, zero, suc, Bool, true, false, ◌||◌, ◌&&◌, not, List, [], ◌∷◌, ◌++◌, Option, Some, None}
 use Rattle.std.specs.Str.{bytes_eq}
 use Rattle.js_syntax.specs.declared.token.Token.{Token}
@@ -20,216 +21,370 @@ use Rattle.js_syntax.specs.declared.tree.Stmt.{Stmt}
 use Rattle.js_syntax.specs.declared.tree.Stmt.TheVariants as st
 use Rattle.js_syntax.specs.Symbols.{Tokens, next, is, among, sees, stops, symbol_of}
 use Rattle.js_syntax.specs.Spelling.{Spelling, Each, Links, Listed, Separated}
-use Rattle.js_syntax.specs.Words.{names, member_names, keys, plain_keys, leaves, leaf_of, is_target, suffixes, member_suffixes, updates, update_of, is_postfix, prefixes, prefixed, operators, operation, assignments, assignment, assigns, closes_body, ends_line}
+use Rattle.js_syntax.specs.Words.{names, member_names, keys, leaves, leaf_of, is_target, suffixes, member_suffixes, updates}
+use Rattle.js_syntax.specs.Words.{update_of, is_postfix, prefixes, prefixed, operators, operation, assignment, assigns, closes_body, ends_line}
 
--- what the parts one level deeper are spelled by
+-- What the parts one level deeper are spelled by. `in_allowed` says whether `in` is an operator there (the standard's [In]), `in_function` whether the
+-- part stands inside a function (its [Return]), `in_loop` whether inside a loop of that function.
 pub record Parts : Type 1 where
-  -- an expression; whether `in` is an operator outside brackets
-  pub expr : Bool → Spelling Expr
-  -- the operand of an operator that stands before it
+  -- AssignmentExpression, the widest expression of this language
+  pub expr : (in_allowed : Bool) → Spelling Expr
+  -- the operand of an operator before it
   pub operand : Spelling Expr
   -- what a `new` is applied to
   pub callee : Spelling Expr
   -- a member of an object literal
   pub member : Spelling Property
-  -- a statement, and a block alone; whether they stand inside a function, and inside a loop of it
-  pub stmt : Bool → Bool → Spelling Stmt
-  pub block : Bool → Bool → Spelling Stmt
-  -- there is such a level
+  -- a statement, and a block alone
+  pub stmt : (in_function in_loop : Bool) → Spelling Stmt
+  pub block : (in_function in_loop : Bool) → Spelling Stmt
+  -- there is a deeper level
   pub deeper : Type 0
 
--- ---- functions
+-- ---- functions (ECMAScript, 15.1 and 15.2)
 
 abbrev pub is_known : List ℕ → List (List ℕ) → Bool
 is_known name [] = false
-is_known name (n ∷ ns) = bytes_eq name n || is_known name ns
+is_known name (known ∷ others) = bytes_eq name known || is_known name others
 
--- Names with commas between: the first list has those before, and the second all of them. Each is none of those before it.
+-- Names with commas between, each none of those before it: the first list has the names so far, and the second all of them.
 pub data Names : List (List ℕ) → List (List ℕ) → Tokens → Tokens → Type 0 where
-  last_name : {found : List (List ℕ)} {n : Token} {rest : Tokens} → among names n ≡ true → is_known n.text found ≡ false → sees (is s.Comma) (next rest) ≡ false → Names found (found ++ n.text ∷ []) (n ∷ rest) rest
-  next_name : {found all : List (List ℕ)} {n t : Token} {ts rest : Tokens} → among names n ≡ true → is_known n.text found ≡ false → is s.Comma t ≡ true → Names (found ++ n.text ∷ []) all ts rest → Names found all (n ∷ (t ∷ ts)) rest
+  last_name : {found : List (List ℕ)} {name : Token} {rest : Tokens}
+      → among names name ≡ true → is_known name.text found ≡ false → sees (is s.Comma) (next rest) ≡ false
+      → Names found (found ++ name.text ∷ []) (name ∷ rest) rest
+  next_name : {found all : List (List ℕ)} {name comma : Token} {tokens rest : Tokens}
+      → among names name ≡ true → is_known name.text found ≡ false → is s.Comma comma ≡ true → Names (found ++ name.text ∷ []) all tokens rest
+      → Names found all (name ∷ (comma ∷ tokens)) rest
 
--- distinct names in brackets, without the first bracket
+-- `FormalParameters )`
 pub data Parameters : List (List ℕ) → Tokens → Tokens → Type 0 where
-  no_parameters : {c : Token} {rest : Tokens} → is s.Close c ≡ true → Parameters [] (c ∷ rest) rest
-  parameters : {all : List (List ℕ)} {c : Token} {ts rest : Tokens} → Names [] all ts (c ∷ rest) → is s.Close c ≡ true → Parameters all ts rest
+  no_parameters : {close_paren : Token} {rest : Tokens} → is s.CloseParen close_paren ≡ true → Parameters [] (close_paren ∷ rest) rest
+  parameters : {all : List (List ℕ)} {close_paren : Token} {tokens rest : Tokens}
+      → Names [] all tokens (close_paren ∷ rest) → is s.CloseParen close_paren ≡ true
+      → Parameters all tokens rest
 
--- statements in braces; inside a function and no loop of it
-pub data Body (P : Parts) : List Stmt → Tokens → Tokens → Type 0 where
-  body : {xs : List Stmt} {o c : Token} {ts rest : Tokens} → is s.OpenBrace o ≡ true → Each closes_body (P.stmt true false) xs ts (c ∷ rest) → is s.CloseBrace c ≡ true → Body P xs (o ∷ ts) rest
+-- `{ FunctionBody }`, which is in a function and in no loop of it
+pub data Body (parts : Parts) : List Stmt → Tokens → Tokens → Type 0 where
+  body : {statements : List Stmt} {open_brace close_brace : Token} {tokens rest : Tokens}
+      → is s.OpenBrace open_brace ≡ true → Each closes_body (parts.stmt true false) statements tokens (close_brace ∷ rest) → is s.CloseBrace close_brace ≡ true
+      → Body parts statements (open_brace ∷ tokens) rest
 
--- a function from its first bracket on
-pub data Lambda (P : Parts) (name : Option (List ℕ)) : Function → Tokens → Tokens → Type 0 where
-  lambda : {o : Token} {all : List (List ℕ)} {xs : List Stmt} {ts mid rest : Tokens} → is s.Open o ≡ true → Parameters all ts mid → Body P xs mid rest → Lambda P name (record { name = name; params = all; body = xs }) (o ∷ ts) rest
+-- `( FormalParameters ) { FunctionBody }`
+pub data Lambda (parts : Parts) (name : Option (List ℕ)) : Function → Tokens → Tokens → Type 0 where
+  lambda : {open_paren : Token} {all : List (List ℕ)} {statements : List Stmt} {tokens after_parameters rest : Tokens}
+      → is s.OpenParen open_paren ≡ true → Parameters all tokens after_parameters → Body parts statements after_parameters rest
+      → Lambda parts name (record { name = name; params = all; body = statements }) (open_paren ∷ tokens) rest
 
--- a function with or without a name
-pub data Named (P : Parts) : Function → Tokens → Tokens → Type 0 where
-  without_name : {f : Function} {ts rest : Tokens} → sees (among names) (next ts) ≡ false → Lambda P None f ts rest → Named P f ts rest
-  with_name : {n : Token} {f : Function} {ts rest : Tokens} → among names n ≡ true → Lambda P (Some n.text) f ts rest → Named P f (n ∷ ts) rest
+-- the same with or without a name before it
+pub data Named (parts : Parts) : Function → Tokens → Tokens → Type 0 where
+  without_name : {function : Function} {tokens rest : Tokens}
+      → sees (among names) (next tokens) ≡ false → Lambda parts None function tokens rest
+      → Named parts function tokens rest
+  with_name : {name : Token} {function : Function} {tokens rest : Tokens}
+      → among names name ≡ true → Lambda parts (Some name.text) function tokens rest
+      → Named parts function (name ∷ tokens) rest
 
--- ---- expressions
+-- ---- expressions (ECMAScript, 13)
 
--- values in brackets, without the first bracket
-pub data Arguments (P : Parts) : List Expr → Tokens → Tokens → Type 0 where
-  no_arguments : {c : Token} {rest : Tokens} → is s.Close c ≡ true → Arguments P [] (c ∷ rest) rest
-  arguments : {all : List Expr} {c : Token} {ts rest : Tokens} → Separated (P.expr true) all ts (c ∷ rest) → is s.Close c ≡ true → Arguments P all ts rest
+-- `ArgumentList )`
+pub data Arguments (parts : Parts) : List Expr → Tokens → Tokens → Type 0 where
+  no_arguments : {close_paren : Token} {rest : Tokens} → is s.CloseParen close_paren ≡ true → Arguments parts [] (close_paren ∷ rest) rest
+  arguments : {all : List Expr} {close_paren : Token} {tokens rest : Tokens}
+      → Separated (parts.expr true) all tokens (close_paren ∷ rest) → is s.CloseParen close_paren ≡ true
+      → Arguments parts all tokens rest
 
-pub data Primary (P : Parts) : Expr → Tokens → Tokens → Type 0 where
-  leaf : {t : Token} {rest : Tokens} → among leaves t ≡ true → Primary P (leaf_of (symbol_of t) t.text) (t ∷ rest) rest
-  group : {o c : Token} {a : Expr} {ts rest : Tokens} → is s.Open o ≡ true → P.expr true a ts (c ∷ rest) → is s.Close c ≡ true → Primary P a (o ∷ ts) rest
-  array : {o : Token} {all : List Expr} {ts rest : Tokens} → is s.OpenBracket o ≡ true → Listed s.CloseBracket (P.expr true) all ts rest → Primary P (ex.Array all) (o ∷ ts) rest
-  object : {o : Token} {all : List Property} {ts rest : Tokens} → is s.OpenBrace o ≡ true → Listed s.CloseBrace P.member all ts rest → Primary P (ex.Object all) (o ∷ ts) rest
-  function : {t : Token} {f : Function} {ts rest : Tokens} → P.deeper → is s.Function t ≡ true → Named P f ts rest → Primary P (ex.Function f) (t ∷ ts) rest
+-- 13.2 PrimaryExpression
+pub data Primary (parts : Parts) : Expr → Tokens → Tokens → Type 0 where
+  leaf : {token : Token} {rest : Tokens} → among leaves token ≡ true → Primary parts (leaf_of (symbol_of token) token.text) (token ∷ rest) rest
+  group : {open_paren close_paren : Token} {inner : Expr} {tokens rest : Tokens}
+      → is s.OpenParen open_paren ≡ true → parts.expr true inner tokens (close_paren ∷ rest) → is s.CloseParen close_paren ≡ true
+      → Primary parts inner (open_paren ∷ tokens) rest
+  array : {open_bracket : Token} {all : List Expr} {tokens rest : Tokens}
+      → is s.OpenBracket open_bracket ≡ true → Listed s.CloseBracket (parts.expr true) all tokens rest
+      → Primary parts (ex.Array all) (open_bracket ∷ tokens) rest
+  object : {open_brace : Token} {all : List Property} {tokens rest : Tokens}
+      → is s.OpenBrace open_brace ≡ true → Listed s.CloseBrace parts.member all tokens rest
+      → Primary parts (ex.Object all) (open_brace ∷ tokens) rest
+  function : {keyword : Token} {function : Function} {tokens rest : Tokens}
+      → parts.deeper → is s.Function keyword ≡ true → Named parts function tokens rest
+      → Primary parts (ex.Function function) (keyword ∷ tokens) rest
 
--- An applied `new` takes the first arguments; one without arguments has no suffix behind it.
-pub data New (P : Parts) : Expr → Tokens → Tokens → Type 0 where
-  applied : {o : Token} {a : Expr} {all : List Expr} {ts mid rest : Tokens} → P.callee a ts (o ∷ mid) → is s.Open o ≡ true → Arguments P all mid rest → New P (ex.New a all) ts rest
-  unapplied : {a : Expr} {ts rest : Tokens} → P.callee a ts rest → sees (is s.Open) (next rest) ≡ false → New P (ex.New a []) ts rest
+-- `new` behind its keyword (13.3.5): it takes the first arguments, and one without arguments has no suffix behind it
+pub data New (parts : Parts) : Expr → Tokens → Tokens → Type 0 where
+  with_arguments : {open_paren : Token} {target : Expr} {all : List Expr} {tokens after_target rest : Tokens}
+      → parts.callee target tokens (open_paren ∷ after_target) → is s.OpenParen open_paren ≡ true → Arguments parts all after_target rest
+      → New parts (ex.New target all) tokens rest
+  without_arguments : {target : Expr} {tokens rest : Tokens}
+      → parts.callee target tokens rest → sees (is s.OpenParen) (next rest) ≡ false
+      → New parts (ex.New target []) tokens rest
 
-pub data Base (P : Parts) : Expr → Tokens → Tokens → Type 0 where
-  new : {t : Token} {a : Expr} {ts rest : Tokens} → is s.New t ≡ true → New P a ts rest → Base P a (t ∷ ts) rest
-  primary : {a : Expr} {ts rest : Tokens} → Primary P a ts rest → Base P a ts rest
+pub data Base (parts : Parts) : Expr → Tokens → Tokens → Type 0 where
+  new : {keyword : Token} {value : Expr} {tokens rest : Tokens}
+      → is s.New keyword ≡ true → New parts value tokens rest
+      → Base parts value (keyword ∷ tokens) rest
+  primary : {value : Expr} {tokens rest : Tokens} → Primary parts value tokens rest → Base parts value tokens rest
 
--- a suffix behind its first token
-pub data Suffix (P : Parts) : Token → Expr → Expr → Tokens → Tokens → Type 0 where
-  member : {t n : Token} {a : Expr} {rest : Tokens} → is s.Dot t ≡ true → among member_names n ≡ true → Suffix P t a (ex.Member a n.text) (n ∷ rest) rest
-  index : {t c : Token} {a b : Expr} {ts rest : Tokens} → is s.OpenBracket t ≡ true → P.expr true b ts (c ∷ rest) → is s.CloseBracket c ≡ true → Suffix P t a (ex.Index a b) ts rest
-  call : {t : Token} {a : Expr} {all : List Expr} {ts rest : Tokens} → is s.Open t ≡ true → Arguments P all ts rest → Suffix P t a (ex.Call a all) ts rest
+-- 13.3.2 and 13.3.6: `.` IdentifierName, `[ Expression ]` or `( ArgumentList )`, behind its first token
+pub data Suffix (parts : Parts) : Token → Expr → Expr → Tokens → Tokens → Type 0 where
+  member : {dot name : Token} {object : Expr} {rest : Tokens}
+      → is s.Dot dot ≡ true → among member_names name ≡ true
+      → Suffix parts dot object (ex.Member object name.text) (name ∷ rest) rest
+  index : {open_bracket close_bracket : Token} {object key : Expr} {tokens rest : Tokens}
+      → is s.OpenBracket open_bracket ≡ true → parts.expr true key tokens (close_bracket ∷ rest) → is s.CloseBracket close_bracket ≡ true
+      → Suffix parts open_bracket object (ex.Index object key) tokens rest
+  call : {open_paren : Token} {callee : Expr} {all : List Expr} {tokens rest : Tokens}
+      → is s.OpenParen open_paren ≡ true → Arguments parts all tokens rest
+      → Suffix parts open_paren callee (ex.Call callee all) tokens rest
 
-pub data Suffixed (chains : ℕ) (P : Parts) : Expr → Tokens → Tokens → Type 0 where
-  suffixed : {a b : Expr} {ts mid rest : Tokens} → Base P a ts mid → Links (among suffixes) (Suffix P) chains a b mid rest → Suffixed chains P b ts rest
+-- 13.3 LeftHandSideExpression
+pub data Suffixed (chains : ℕ) (parts : Parts) : Expr → Tokens → Tokens → Type 0 where
+  suffixed : {first value : Expr} {tokens after_first rest : Tokens}
+      → Base parts first tokens after_first → Links (among suffixes) (Suffix parts) chains first value after_first rest
+      → Suffixed chains parts value tokens rest
 
-pub data Callee (chains : ℕ) (P : Parts) : Expr → Tokens → Tokens → Type 0 where
-  callee : {a b : Expr} {ts mid rest : Tokens} → Base P a ts mid → Links (among member_suffixes) (Suffix P) chains a b mid rest → Callee chains P b ts rest
+-- 13.3 MemberExpression
+pub data Callee (chains : ℕ) (parts : Parts) : Expr → Tokens → Tokens → Type 0 where
+  callee : {first value : Expr} {tokens after_first rest : Tokens}
+      → Base parts first tokens after_first → Links (among member_suffixes) (Suffix parts) chains first value after_first rest
+      → Callee chains parts value tokens rest
 
-pub data Unary (chains : ℕ) (P : Parts) : Expr → Tokens → Tokens → Type 0 where
-  operated : {t : Token} {a : Expr} {ts rest : Tokens} → among prefixes t ≡ true → P.operand a ts rest → Unary chains P (prefixed (symbol_of t) a) (t ∷ ts) rest
-  updated : {t : Token} {a : Expr} {ts rest : Tokens} → among updates t ≡ true → P.operand a ts rest → is_target a ≡ true → Unary chains P (ex.Prefix (update_of (symbol_of t)) a) (t ∷ ts) rest
-  postfix : {t : Token} {a : Expr} {ts rest : Tokens} → Suffixed chains P a ts (t ∷ rest) → is_postfix a t ≡ true → Unary chains P (ex.Postfix (update_of (symbol_of t)) a) ts rest
-  plain : {a : Expr} {ts rest : Tokens} → Suffixed chains P a ts rest → sees (is_postfix a) (next rest) ≡ false → Unary chains P a ts rest
+-- 13.4 UpdateExpression and 13.5 UnaryExpression
+pub data Unary (chains : ℕ) (parts : Parts) : Expr → Tokens → Tokens → Type 0 where
+  operated : {operator : Token} {operand : Expr} {tokens rest : Tokens}
+      → among prefixes operator ≡ true → parts.operand operand tokens rest
+      → Unary chains parts (prefixed (symbol_of operator) operand) (operator ∷ tokens) rest
+  updated : {operator : Token} {operand : Expr} {tokens rest : Tokens}
+      → among updates operator ≡ true → parts.operand operand tokens rest → is_target operand ≡ true
+      → Unary chains parts (ex.Prefix (update_of (symbol_of operator)) operand) (operator ∷ tokens) rest
+  postfix : {operator : Token} {operand : Expr} {tokens rest : Tokens}
+      → Suffixed chains parts operand tokens (operator ∷ rest) → is_postfix operand operator ≡ true
+      → Unary chains parts (ex.Postfix (update_of (symbol_of operator)) operand) tokens rest
+  plain : {operand : Expr} {tokens rest : Tokens}
+      → Suffixed chains parts operand tokens rest → sees (is_postfix operand) (next rest) ≡ false
+      → Unary chains parts operand tokens rest
 
 -- one more operand of a left chain
 pub data Operand (Item : Spelling Expr) : Token → Expr → Expr → Tokens → Tokens → Type 0 where
-  operand : {t : Token} {a b : Expr} {ts rest : Tokens} → Item b ts rest → Operand Item t a (operation (symbol_of t) a b) ts rest
+  operand : {operator : Token} {left right : Expr} {tokens rest : Tokens}
+      → Item right tokens rest
+      → Operand Item operator left (operation (symbol_of operator) left right) tokens rest
 
-pub data Chain (chains : ℕ) (q : Token → Bool) (Item : Spelling Expr) : Expr → Tokens → Tokens → Type 0 where
-  chain : {a b : Expr} {ts mid rest : Tokens} → Item a ts mid → Links q (Operand Item) chains a b mid rest → Chain chains q Item b ts rest
+pub data Chain (chains : ℕ) (are_operators : Token → Bool) (Item : Spelling Expr) : Expr → Tokens → Tokens → Type 0 where
+  chain : {first value : Expr} {tokens after_first rest : Tokens}
+      → Item first tokens after_first → Links are_operators (Operand Item) chains first value after_first rest
+      → Chain chains are_operators Item value tokens rest
 
--- so many levels of left chains, on top of one another
+-- 13.6 to 13.13: the levels of left chains, one on top of another
 abbrev pub Binary : ℕ → Parts → Bool → ℕ → Spelling Expr
-Binary chains P in_is zero = Unary chains P
-Binary chains P in_is (suc n) = Chain chains (among (operators in_is n)) (Binary chains P in_is n)
+Binary chains parts in_allowed zero = Unary chains parts
+Binary chains parts in_allowed (suc level) = Chain chains (among (operators in_allowed level)) (Binary chains parts in_allowed level)
 
 abbrev pub LEVELS_OF_CHAINS : ℕ
 LEVELS_OF_CHAINS = 6
 
-pub data Conditional (chains : ℕ) (P : Parts) (in_is : Bool) : Expr → Tokens → Tokens → Type 0 where
-  conditional : {t u : Token} {a b c : Expr} {ts mid after rest : Tokens} → Binary chains P in_is LEVELS_OF_CHAINS a ts (t ∷ mid) → is s.Question t ≡ true → P.expr in_is b mid (u ∷ after) → is s.Colon u ≡ true → P.expr in_is c after rest → Conditional chains P in_is (ex.Conditional a b c) ts rest
-  unconditional : {a : Expr} {ts rest : Tokens} → Binary chains P in_is LEVELS_OF_CHAINS a ts rest → sees (is s.Question) (next rest) ≡ false → Conditional chains P in_is a ts rest
+-- 13.14 ConditionalExpression
+pub data Conditional (chains : ℕ) (parts : Parts) (in_allowed : Bool) : Expr → Tokens → Tokens → Type 0 where
+  conditional : {question colon : Token} {test then_value else_value : Expr} {tokens after_test after_then rest : Tokens}
+      → Binary chains parts in_allowed LEVELS_OF_CHAINS test tokens (question ∷ after_test) → is s.Question question ≡ true
+      → parts.expr in_allowed then_value after_test (colon ∷ after_then) → is s.Colon colon ≡ true → parts.expr in_allowed else_value after_then rest
+      → Conditional chains parts in_allowed (ex.Conditional test then_value else_value) tokens rest
+  unconditional : {value : Expr} {tokens rest : Tokens}
+      → Binary chains parts in_allowed LEVELS_OF_CHAINS value tokens rest → sees (is s.Question) (next rest) ≡ false
+      → Conditional chains parts in_allowed value tokens rest
 
--- Only what ends as a suffix is a name or a member, so nothing else is assigned.
-pub data Assign (chains : ℕ) (P : Parts) (in_is : Bool) : Expr → Tokens → Tokens → Type 0 where
-  assigned : {t : Token} {a b : Expr} {ts mid rest : Tokens} → Conditional chains P in_is a ts (t ∷ mid) → assigns a t ≡ true → P.expr in_is b mid rest → Assign chains P in_is (assignment (symbol_of t) a b) ts rest
-  unassigned : {a : Expr} {ts rest : Tokens} → Conditional chains P in_is a ts rest → sees (assigns a) (next rest) ≡ false → Assign chains P in_is a ts rest
+-- 13.15 AssignmentExpression. Only what ends as a suffix is a name or a member, so nothing else is assigned.
+pub data Assign (chains : ℕ) (parts : Parts) (in_allowed : Bool) : Expr → Tokens → Tokens → Type 0 where
+  assigned : {operator : Token} {target value : Expr} {tokens after_target rest : Tokens}
+      → Conditional chains parts in_allowed target tokens (operator ∷ after_target) → assigns target operator ≡ true
+      → parts.expr in_allowed value after_target rest
+      → Assign chains parts in_allowed (assignment (symbol_of operator) target value) tokens rest
+  unassigned : {value : Expr} {tokens rest : Tokens}
+      → Conditional chains parts in_allowed value tokens rest → sees (assigns value) (next rest) ≡ false
+      → Assign chains parts in_allowed value tokens rest
 
--- a getter or setter behind its first name, and a value; the name that stood first is a key where a colon follows
-pub data Member (chains : ℕ) (P : Parts) : Property → Tokens → Tokens → Type 0 where
-  value : {k t : Token} {a : Expr} {ts rest : Tokens} → among keys k ≡ true → is s.Colon t ≡ true → Assign chains P true a ts rest → Member chains P (property.Value k.text a) (k ∷ (t ∷ ts)) rest
-  getter : {g k o c : Token} {xs : List Stmt} {ts rest : Tokens} → P.deeper → is s.Get g ≡ true → among keys k ≡ true → is s.Open o ≡ true → is s.Close c ≡ true → Body P xs ts rest
-      → Member chains P (property.Get k.text (record { name = None; params = []; body = xs })) (g ∷ (k ∷ (o ∷ (c ∷ ts)))) rest
-  setter : {g k o n c : Token} {xs : List Stmt} {ts rest : Tokens} → P.deeper → is s.Set g ≡ true → among keys k ≡ true → is s.Open o ≡ true → among names n ≡ true → is s.Close c ≡ true → Body P xs ts rest
-      → Member chains P (property.Set k.text (record { name = None; params = n.text ∷ []; body = xs })) (g ∷ (k ∷ (o ∷ (n ∷ (c ∷ ts))))) rest
+-- 13.2.5 PropertyDefinition: `get` and `set` begin an accessor, or are a key where a colon follows
+pub data Member (chains : ℕ) (parts : Parts) : Property → Tokens → Tokens → Type 0 where
+  value : {key colon : Token} {value : Expr} {tokens rest : Tokens}
+      → among keys key ≡ true → is s.Colon colon ≡ true → Assign chains parts true value tokens rest
+      → Member chains parts (property.Value key.text value) (key ∷ (colon ∷ tokens)) rest
+  getter : {get key open_paren close_paren : Token} {statements : List Stmt} {tokens rest : Tokens}
+      → parts.deeper → is s.Get get ≡ true → among keys key ≡ true → is s.OpenParen open_paren ≡ true → is s.CloseParen close_paren ≡ true
+      → Body parts statements tokens rest
+      → Member chains parts (property.Get key.text (record { name = None; params = []; body = statements }))
+      (get ∷ (key ∷ (open_paren ∷ (close_paren ∷ tokens)))) rest
+  setter : {set key open_paren name close_paren : Token} {statements : List Stmt} {tokens rest : Tokens}
+      → parts.deeper → is s.Set set ≡ true → among keys key ≡ true → is s.OpenParen open_paren ≡ true → among names name ≡ true
+      → is s.CloseParen close_paren ≡ true → Body parts statements tokens rest
+      → Member chains parts (property.Set key.text (record { name = None; params = name.text ∷ []; body = statements }))
+      (set ∷ (key ∷ (open_paren ∷ (name ∷ (close_paren ∷ tokens))))) rest
 
--- ---- statements
+-- ---- statements (ECMAScript, 14)
 
--- the semicolon that ends a statement, which may be left out
+-- the semicolon that ends a statement, which may be left out (12.10.1)
 pub data Ends : Tokens → Tokens → Type 0 where
-  semicolon : {t : Token} {rest : Tokens} → is s.Semicolon t ≡ true → Ends (t ∷ rest) rest
+  semicolon : {token : Token} {rest : Tokens} → is s.Semicolon token ≡ true → Ends (token ∷ rest) rest
   omitted : {rest : Tokens} → sees (is s.Semicolon) (next rest) ≡ false → sees ends_line (next rest) ≡ true → Ends rest rest
 
--- .. behind `break`, `continue` and `return`: a line end ends the statement
-pub data Stops : Tokens → Tokens → Type 0 where
-  stopped : {t : Token} {rest : Tokens} → is s.Semicolon t ≡ true → ends_line t ≡ false → Stops (t ∷ rest) rest
-  broken : {rest : Tokens} → sees ends_line (next rest) ≡ true → Stops rest rest
+-- the same behind `break`, `continue` and `return`, which a line end ends as well
+pub data EndOfJump : Tokens → Tokens → Type 0 where
+  stopped : {token : Token} {rest : Tokens} → is s.Semicolon token ≡ true → ends_line token ≡ false → EndOfJump (token ∷ rest) rest
+  broken : {rest : Tokens} → sees ends_line (next rest) ≡ true → EndOfJump rest rest
 
-pub data Block (P : Parts) (f l : Bool) : Stmt → Tokens → Tokens → Type 0 where
-  block : {o c : Token} {xs : List Stmt} {ts rest : Tokens} → is s.OpenBrace o ≡ true → Each closes_body (P.stmt f l) xs ts (c ∷ rest) → is s.CloseBrace c ≡ true → Block P f l (st.Block xs) (o ∷ ts) rest
+-- 14.2 Block
+pub data Block (parts : Parts) (in_function in_loop : Bool) : Stmt → Tokens → Tokens → Type 0 where
+  block : {open_brace close_brace : Token} {statements : List Stmt} {tokens rest : Tokens}
+      → is s.OpenBrace open_brace ≡ true → Each closes_body (parts.stmt in_function in_loop) statements tokens (close_brace ∷ rest)
+      → is s.CloseBrace close_brace ≡ true
+      → Block parts in_function in_loop (st.Block statements) (open_brace ∷ tokens) rest
 
--- a declared name, with or without a value
-pub data Declared (chains : ℕ) (P : Parts) (in_is : Bool) : Declaration → Tokens → Tokens → Type 0 where
-  bare : {n : Token} {rest : Tokens} → among names n ≡ true → sees (is s.Assign) (next rest) ≡ false → Declared chains P in_is (record { name = n.text; value = None }) (n ∷ rest) rest
-  valued : {n t : Token} {a : Expr} {ts rest : Tokens} → among names n ≡ true → is s.Assign t ≡ true → Assign chains P in_is a ts rest → Declared chains P in_is (record { name = n.text; value = Some a }) (n ∷ (t ∷ ts)) rest
+-- 14.3.2 VariableDeclaration
+pub data Declared (chains : ℕ) (parts : Parts) (in_allowed : Bool) : Declaration → Tokens → Tokens → Type 0 where
+  bare : {name : Token} {rest : Tokens}
+      → among names name ≡ true → sees (is s.Assign) (next rest) ≡ false
+      → Declared chains parts in_allowed (record { name = name.text; value = None }) (name ∷ rest) rest
+  valued : {name equals : Token} {value : Expr} {tokens rest : Tokens}
+      → among names name ≡ true → is s.Assign equals ≡ true → Assign chains parts in_allowed value tokens rest
+      → Declared chains parts in_allowed (record { name = name.text; value = Some value }) (name ∷ (equals ∷ tokens)) rest
 
-pub data Condition (chains : ℕ) (P : Parts) : Expr → Tokens → Tokens → Type 0 where
-  condition : {o c : Token} {a : Expr} {ts rest : Tokens} → is s.Open o ≡ true → Assign chains P true a ts (c ∷ rest) → is s.Close c ≡ true → Condition chains P a (o ∷ ts) rest
+-- `( Expression )`
+pub data Condition (chains : ℕ) (parts : Parts) : Expr → Tokens → Tokens → Type 0 where
+  condition : {open_paren close_paren : Token} {value : Expr} {tokens rest : Tokens}
+      → is s.OpenParen open_paren ≡ true → Assign chains parts true value tokens (close_paren ∷ rest) → is s.CloseParen close_paren ≡ true
+      → Condition chains parts value (open_paren ∷ tokens) rest
 
--- `else` belongs to the nearest `if`
-pub data Otherwise (P : Parts) (f l : Bool) : Option Stmt → Tokens → Tokens → Type 0 where
-  no_else : {rest : Tokens} → sees (is s.Else) (next rest) ≡ false → Otherwise P f l None rest rest
-  else_ : {t : Token} {x : Stmt} {ts rest : Tokens} → is s.Else t ≡ true → P.stmt f l x ts rest → Otherwise P f l (Some x) (t ∷ ts) rest
+-- `else` belongs to the nearest `if` (14.6)
+pub data ElseClause (parts : Parts) (in_function in_loop : Bool) : Option Stmt → Tokens → Tokens → Type 0 where
+  without_else : {rest : Tokens} → sees (is s.Else) (next rest) ≡ false → ElseClause parts in_function in_loop None rest rest
+  with_else : {keyword : Token} {statement : Stmt} {tokens rest : Tokens}
+      → is s.Else keyword ≡ true → parts.stmt in_function in_loop statement tokens rest
+      → ElseClause parts in_function in_loop (Some statement) (keyword ∷ tokens) rest
 
--- an expression, and a token that closes it; or that token alone
-pub data Optional (chains : ℕ) (P : Parts) (close : Symbol) : Option Expr → Tokens → Tokens → Type 0 where
-  nothing : {c : Token} {rest : Tokens} → is close c ≡ true → Optional chains P close None (c ∷ rest) rest
-  something : {c : Token} {a : Expr} {ts rest : Tokens} → Assign chains P true a ts (c ∷ rest) → is close c ≡ true → Optional chains P close (Some a) ts rest
+-- an expression and a token that closes it, or that token alone
+pub data Optional (chains : ℕ) (parts : Parts) (close : Symbol) : Option Expr → Tokens → Tokens → Type 0 where
+  nothing : {closer : Token} {rest : Tokens} → is close closer ≡ true → Optional chains parts close None (closer ∷ rest) rest
+  something : {closer : Token} {value : Expr} {tokens rest : Tokens}
+      → Assign chains parts true value tokens (closer ∷ rest) → is close closer ≡ true
+      → Optional chains parts close (Some value) tokens rest
 
--- the first part of the head of a `for`, and its semicolon; `in` is no operator there
-pub data Start (chains : ℕ) (P : Parts) : ForStart → Tokens → Tokens → Type 0 where
-  no_start : {t : Token} {rest : Tokens} → is s.Semicolon t ≡ true → Start chains P start.Nothing (t ∷ rest) rest
-  variables : {t c : Token} {all : List Declaration} {ts rest : Tokens} → is s.Var t ≡ true → Separated (Declared chains P false) all ts (c ∷ rest) → is s.Semicolon c ≡ true → Start chains P (start.Var all) (t ∷ ts) rest
-  expression : {c : Token} {a : Expr} {ts rest : Tokens} → Assign chains P false a ts (c ∷ rest) → is s.Semicolon c ≡ true → Start chains P (start.Expression a) ts rest
+-- 14.7.4: the first part of the head of a `for` and its semicolon; `in` is no operator there
+pub data Start (chains : ℕ) (parts : Parts) : ForStart → Tokens → Tokens → Type 0 where
+  no_start : {semicolon : Token} {rest : Tokens} → is s.Semicolon semicolon ≡ true → Start chains parts start.Nothing (semicolon ∷ rest) rest
+  variables : {keyword semicolon : Token} {all : List Declaration} {tokens rest : Tokens}
+      → is s.Var keyword ≡ true → Separated (Declared chains parts false) all tokens (semicolon ∷ rest) → is s.Semicolon semicolon ≡ true
+      → Start chains parts (start.Var all) (keyword ∷ tokens) rest
+  expression : {closer : Token} {value : Expr} {tokens rest : Tokens}
+      → Assign chains parts false value tokens (closer ∷ rest) → is s.Semicolon closer ≡ true
+      → Start chains parts (start.Expression value) tokens rest
 
--- what a `for` over keys sets, and its `in`
-pub data Target (chains : ℕ) (P : Parts) : ForTarget → Tokens → Tokens → Type 0 where
-  variable : {t n c : Token} {rest : Tokens} → is s.Var t ≡ true → among names n ≡ true → is s.In c ≡ true → Target chains P (target.Var n.text) (t ∷ (n ∷ (c ∷ rest))) rest
-  expression : {c : Token} {a : Expr} {ts rest : Tokens} → Assign chains P false a ts (c ∷ rest) → is_target a ≡ true → is s.In c ≡ true → Target chains P (target.Expression a) ts rest
+-- 14.7.5: what a `for` over keys sets, and its `in`
+pub data Target (chains : ℕ) (parts : Parts) : ForTarget → Tokens → Tokens → Type 0 where
+  variable : {keyword name in_keyword : Token} {rest : Tokens}
+      → is s.Var keyword ≡ true → among names name ≡ true → is s.In in_keyword ≡ true
+      → Target chains parts (target.Var name.text) (keyword ∷ (name ∷ (in_keyword ∷ rest))) rest
+  expression : {closer : Token} {value : Expr} {tokens rest : Tokens}
+      → Assign chains parts false value tokens (closer ∷ rest) → is_target value ≡ true → is s.In closer ≡ true
+      → Target chains parts (target.Expression value) tokens rest
 
--- `catch`, and a `finally` that may follow it; or a `finally` alone
-pub data Handlers (P : Parts) (f l : Bool) : Option Catch → Option Stmt → Tokens → Tokens → Type 0 where
-  catch_ : {t o n c : Token} {x : Stmt} {ts rest : Tokens} → is s.Catch t ≡ true → is s.Open o ≡ true → among names n ≡ true → is s.Close c ≡ true → P.block f l x ts rest → sees (is s.Finally) (next rest) ≡ false
-      → Handlers P f l (Some (record { name = n.text; block = x })) None (t ∷ (o ∷ (n ∷ (c ∷ ts)))) rest
-  catch_finally : {t o n c u : Token} {x y : Stmt} {ts mid rest : Tokens} → is s.Catch t ≡ true → is s.Open o ≡ true → among names n ≡ true → is s.Close c ≡ true → P.block f l x ts (u ∷ mid) → is s.Finally u ≡ true → P.block f l y mid rest
-      → Handlers P f l (Some (record { name = n.text; block = x })) (Some y) (t ∷ (o ∷ (n ∷ (c ∷ ts)))) rest
-  finally_ : {t : Token} {y : Stmt} {ts rest : Tokens} → is s.Finally t ≡ true → P.block f l y ts rest → Handlers P f l None (Some y) (t ∷ ts) rest
+-- 14.15: `catch`, and a `finally` that may follow it; or a `finally` alone
+pub data Handlers (parts : Parts) (in_function in_loop : Bool) : Option Catch → Option Stmt → Tokens → Tokens → Type 0 where
+  catch_ : {keyword open_paren name close_paren : Token} {handler : Stmt} {tokens rest : Tokens}
+      → is s.Catch keyword ≡ true → is s.OpenParen open_paren ≡ true → among names name ≡ true → is s.CloseParen close_paren ≡ true
+      → parts.block in_function in_loop handler tokens rest → sees (is s.Finally) (next rest) ≡ false
+      → Handlers parts in_function in_loop (Some (record { name = name.text; block = handler })) None
+      (keyword ∷ (open_paren ∷ (name ∷ (close_paren ∷ tokens)))) rest
+  catch_finally : {keyword open_paren name close_paren finally_keyword : Token} {handler last : Stmt} {tokens after_handler rest : Tokens}
+      → is s.Catch keyword ≡ true → is s.OpenParen open_paren ≡ true → among names name ≡ true → is s.CloseParen close_paren ≡ true
+      → parts.block in_function in_loop handler tokens (finally_keyword ∷ after_handler) → is s.Finally finally_keyword ≡ true
+      → parts.block in_function in_loop last after_handler rest
+      → Handlers parts in_function in_loop (Some (record { name = name.text; block = handler })) (Some last)
+      (keyword ∷ (open_paren ∷ (name ∷ (close_paren ∷ tokens)))) rest
+  finally_ : {keyword : Token} {last : Stmt} {tokens rest : Tokens}
+      → is s.Finally keyword ≡ true → parts.block in_function in_loop last tokens rest
+      → Handlers parts in_function in_loop None (Some last) (keyword ∷ tokens) rest
 
--- an expression doesn't begin a statement with these
+-- what an ExpressionStatement doesn't begin with (14.5)
 abbrev pub not_first : List Symbol
 not_first = s.OpenBrace ∷ s.Function ∷ []
 
--- f: inside a function; l: inside a loop of it
-pub data Statement (chains : ℕ) (P : Parts) (f l : Bool) : Stmt → Tokens → Tokens → Type 0 where
-  empty : {t : Token} {rest : Tokens} → is s.Semicolon t ≡ true → Statement chains P f l st.Empty (t ∷ rest) rest
-  block : {x : Stmt} {ts rest : Tokens} → Block P f l x ts rest → Statement chains P f l x ts rest
-  variables : {t : Token} {all : List Declaration} {ts mid rest : Tokens} → is s.Var t ≡ true → Separated (Declared chains P true) all ts mid → Ends mid rest → Statement chains P f l (st.Var all) (t ∷ ts) rest
-  function : {t n : Token} {g : Function} {ts rest : Tokens} → P.deeper → is s.Function t ≡ true → among names n ≡ true → Lambda P (Some n.text) g ts rest → Statement chains P f l (st.Function g) (t ∷ (n ∷ ts)) rest
-  expression : {a : Expr} {ts mid rest : Tokens} → sees (among not_first) (next ts) ≡ false → Assign chains P true a ts mid → Ends mid rest → Statement chains P f l (st.Expression a) ts rest
-  branch : {t : Token} {a : Expr} {x : Stmt} {y : Option Stmt} {ts mid after rest : Tokens} → is s.If t ≡ true → Condition chains P a ts mid → P.stmt f l x mid after → Otherwise P f l y after rest → Statement chains P f l (st.If a x y) (t ∷ ts) rest
-  repetition : {t : Token} {a : Expr} {x : Stmt} {ts mid rest : Tokens} → is s.While t ≡ true → Condition chains P a ts mid → P.stmt f true x mid rest → Statement chains P f l (st.While a x) (t ∷ ts) rest
-  loop : {t o : Token} {a : ForStart} {b c : Option Expr} {x : Stmt} {ts mid after last rest : Tokens} → is s.For t ≡ true → is s.Open o ≡ true → Start chains P a ts mid → Optional chains P s.Semicolon b mid after → Optional chains P s.Close c after last → P.stmt f true x last rest
-      → Statement chains P f l (st.For a b c x) (t ∷ (o ∷ ts)) rest
-  over_keys : {t o c : Token} {a : ForTarget} {b : Expr} {x : Stmt} {ts mid after rest : Tokens} → is s.For t ≡ true → is s.Open o ≡ true → Target chains P a ts mid → Assign chains P true b mid (c ∷ after) → is s.Close c ≡ true → P.stmt f true x after rest
-      → Statement chains P f l (st.ForIn a b x) (t ∷ (o ∷ ts)) rest
-  break_ : {t : Token} {ts rest : Tokens} → is s.Break t ≡ true → l ≡ true → Stops ts rest → Statement chains P f l st.Break (t ∷ ts) rest
-  continue_ : {t : Token} {ts rest : Tokens} → is s.Continue t ≡ true → l ≡ true → Stops ts rest → Statement chains P f l st.Continue (t ∷ ts) rest
-  return_ : {t : Token} {ts rest : Tokens} → is s.Return t ≡ true → f ≡ true → Stops ts rest → Statement chains P f l (st.Return None) (t ∷ ts) rest
-  return_value : {t : Token} {a : Expr} {ts mid rest : Tokens} → is s.Return t ≡ true → f ≡ true → sees ends_line (next ts) ≡ false → Assign chains P true a ts mid → Ends mid rest → Statement chains P f l (st.Return (Some a)) (t ∷ ts) rest
-  throw_ : {t : Token} {a : Expr} {ts mid rest : Tokens} → is s.Throw t ≡ true → sees ends_line (next ts) ≡ false → Assign chains P true a ts mid → Ends mid rest → Statement chains P f l (st.Throw a) (t ∷ ts) rest
-  try_ : {t : Token} {x : Stmt} {c : Option Catch} {y : Option Stmt} {ts mid rest : Tokens} → is s.Try t ≡ true → P.block f l x ts mid → Handlers P f l c y mid rest → Statement chains P f l (st.Try x c y) (t ∷ ts) rest
+pub data Statement (chains : ℕ) (parts : Parts) (in_function in_loop : Bool) : Stmt → Tokens → Tokens → Type 0 where
+  -- 14.4
+  empty : {semicolon : Token} {rest : Tokens} → is s.Semicolon semicolon ≡ true → Statement chains parts in_function in_loop st.Empty (semicolon ∷ rest) rest
+  -- 14.2
+  block : {statement : Stmt} {tokens rest : Tokens}
+      → Block parts in_function in_loop statement tokens rest
+      → Statement chains parts in_function in_loop statement tokens rest
+  -- 14.3.2
+  variables : {keyword : Token} {all : List Declaration} {tokens after_all rest : Tokens}
+      → is s.Var keyword ≡ true → Separated (Declared chains parts true) all tokens after_all → Ends after_all rest
+      → Statement chains parts in_function in_loop (st.Var all) (keyword ∷ tokens) rest
+  -- 15.2
+  function : {keyword name : Token} {function : Function} {tokens rest : Tokens}
+      → parts.deeper → is s.Function keyword ≡ true → among names name ≡ true → Lambda parts (Some name.text) function tokens rest
+      → Statement chains parts in_function in_loop (st.Function function) (keyword ∷ (name ∷ tokens)) rest
+  -- 14.5
+  expression : {value : Expr} {tokens after_value rest : Tokens}
+      → sees (among not_first) (next tokens) ≡ false → Assign chains parts true value tokens after_value → Ends after_value rest
+      → Statement chains parts in_function in_loop (st.Expression value) tokens rest
+  -- 14.6
+  if_statement : {keyword : Token} {test : Expr} {then_statement : Stmt} {else_statement : Option Stmt} {tokens after_test after_then rest : Tokens}
+      → is s.If keyword ≡ true → Condition chains parts test tokens after_test → parts.stmt in_function in_loop then_statement after_test after_then
+      → ElseClause parts in_function in_loop else_statement after_then rest
+      → Statement chains parts in_function in_loop (st.If test then_statement else_statement) (keyword ∷ tokens) rest
+  -- 14.7.3
+  while_statement : {keyword : Token} {test : Expr} {statement : Stmt} {tokens after_test rest : Tokens}
+      → is s.While keyword ≡ true → Condition chains parts test tokens after_test → parts.stmt in_function true statement after_test rest
+      → Statement chains parts in_function in_loop (st.While test statement) (keyword ∷ tokens) rest
+  -- 14.7.4
+  for_statement : {keyword open_paren : Token} {first : ForStart} {test step : Option Expr} {statement : Stmt}
+      {tokens after_first after_test after_step rest : Tokens}
+      → is s.For keyword ≡ true → is s.OpenParen open_paren ≡ true → Start chains parts first tokens after_first
+      → Optional chains parts s.Semicolon test after_first after_test → Optional chains parts s.CloseParen step after_test after_step
+      → parts.stmt in_function true statement after_step rest
+      → Statement chains parts in_function in_loop (st.For first test step statement) (keyword ∷ (open_paren ∷ tokens)) rest
+  -- 14.7.5
+  for_in : {keyword open_paren close_paren : Token} {target : ForTarget} {object : Expr} {statement : Stmt} {tokens after_target after_object rest : Tokens}
+      → is s.For keyword ≡ true → is s.OpenParen open_paren ≡ true → Target chains parts target tokens after_target
+      → Assign chains parts true object after_target (close_paren ∷ after_object) → is s.CloseParen close_paren ≡ true
+      → parts.stmt in_function true statement after_object rest
+      → Statement chains parts in_function in_loop (st.ForIn target object statement) (keyword ∷ (open_paren ∷ tokens)) rest
+  -- 14.9 and 14.8, in a loop alone
+  break_statement : {keyword : Token} {tokens rest : Tokens}
+      → is s.Break keyword ≡ true → in_loop ≡ true → EndOfJump tokens rest
+      → Statement chains parts in_function in_loop st.Break (keyword ∷ tokens) rest
+  continue_statement : {keyword : Token} {tokens rest : Tokens}
+      → is s.Continue keyword ≡ true → in_loop ≡ true → EndOfJump tokens rest
+      → Statement chains parts in_function in_loop st.Continue (keyword ∷ tokens) rest
+  -- 14.10, in a function alone; a value begins on the line of its `return`
+  return_statement : {keyword : Token} {tokens rest : Tokens}
+      → is s.Return keyword ≡ true → in_function ≡ true → EndOfJump tokens rest
+      → Statement chains parts in_function in_loop (st.Return None) (keyword ∷ tokens) rest
+  return_value : {keyword : Token} {value : Expr} {tokens after_value rest : Tokens}
+      → is s.Return keyword ≡ true → in_function ≡ true → sees ends_line (next tokens) ≡ false → Assign chains parts true value tokens after_value
+      → Ends after_value rest
+      → Statement chains parts in_function in_loop (st.Return (Some value)) (keyword ∷ tokens) rest
+  -- 14.14
+  throw_statement : {keyword : Token} {value : Expr} {tokens after_value rest : Tokens}
+      → is s.Throw keyword ≡ true → sees ends_line (next tokens) ≡ false → Assign chains parts true value tokens after_value → Ends after_value rest
+      → Statement chains parts in_function in_loop (st.Throw value) (keyword ∷ tokens) rest
+  -- 14.15
+  try_statement : {keyword : Token} {tried : Stmt} {catch : Option Catch} {last : Option Stmt} {tokens after_tried rest : Tokens}
+      → is s.Try keyword ≡ true → parts.block in_function in_loop tried tokens after_tried → Handlers parts in_function in_loop catch last after_tried rest
+      → Statement chains parts in_function in_loop (st.Try tried catch last) (keyword ∷ tokens) rest
 
 -- ---- levels
 
 abbrev pub no_parts : Parts
 no_parts = record {
-  expr = λ in_is a ts rest. ⊥;
-  operand = λ a ts rest. ⊥;
-  callee = λ a ts rest. ⊥;
-  member = λ m ts rest. ⊥;
-  stmt = λ f l x ts rest. ⊥;
-  block = λ f l x ts rest. ⊥;
+  expr = λ in_allowed value tokens rest. ⊥;
+  operand = λ value tokens rest. ⊥;
+  callee = λ value tokens rest. ⊥;
+  member = λ value tokens rest. ⊥;
+  stmt = λ in_function in_loop statement tokens rest. ⊥;
+  block = λ in_function in_loop statement tokens rest. ⊥;
   deeper = ⊥;
 }
 
--- what has so many levels at most
+-- the parts that have at most this number of levels
 unfoldable pub parts_within : ℕ → ℕ → Parts
 parts_within chains zero = no_parts
 parts_within chains (suc left) = record {

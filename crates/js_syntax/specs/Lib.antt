@@ -9,3 +9,5 @@ pub mod TokenTexts
 pub mod TokenSpelling
 pub mod Tokens
 pub mod TokenFaults
+pub mod ReservedWords
+pub mod SymbolNumbers

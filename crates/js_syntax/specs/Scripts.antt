@@ -7,6 +7,7 @@ use Rattle.js_syntax.specs.declared.tree.Script.{Script}
 use Rattle.js_syntax.specs.declared.parse_fault.ParseFault.{ParseFault}
 use Rattle.js_syntax.specs.declared.parse_fault.ParseKind.{ParseKind}
 use Rattle.js_syntax.specs.declared.parse_fault.ParseKind.TheVariants.{Unexpected, TooDeep}
+pub use Rattle.js_syntax.specs.declared.limits.TheConstants.{CHAIN_LIMIT, LEVEL_LIMIT}
 use Rattle.js_syntax.specs.Symbols.{Tokens, is}
 use Rattle.js_syntax.specs.Spelling.{Each}
 use Rattle.js_syntax.specs.Words.{closes_body}
@@ -45,10 +46,3 @@ abbrev pub EndsWell : Tokens → Type 0
 EndsWell [] = ⊥
 EndsWell (t ∷ []) = t.kind ≡ kind.End
 EndsWell (t ∷ (u ∷ ts)) = EndsWell (u ∷ ts)
-
--- the limits: 64 links of a chain, and depth 63 below the statements of depth 0
-abbrev pub CHAIN_LIMIT : ℕ
-CHAIN_LIMIT = 64
-
-abbrev pub LEVEL_LIMIT : ℕ
-LEVEL_LIMIT = 64

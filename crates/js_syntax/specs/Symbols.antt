@@ -1,7 +1,10 @@
 -- What a token is to the grammar of scripts, by its kind and its text.
-use Rattle.std.specs.Prelude.{◌≡◌, ◌==◌, ◌+◌, ◌-◌, ◌*◌, ℕ, zero, suc, Bool, true, false, ◌||◌, ◌&&◌, not, cond, List, [], ◌∷◌, Option, Some, None, codes, nat_lt, encode_utf8_all, if◌then◌else◌}
+use Rattle.std.specs.Prelude.{◌≡◌, ◌==◌, ◌+◌, ◌-◌, ◌*◌, ℕ, zero, suc, Bool, true, false, ◌||◌, ◌&&◌}
+use Rattle.std.specs.Prelude.{not, cond, List, [], ◌∷◌, Option, Some, None, codes, nat_lt, encode_utf8_all, if◌then◌else◌}
 use Rattle.std.specs.Str.{bytes_eq}
 use Rattle.js_syntax.specs.TokenScalars.{is_name_start, is_name_part}
+pub use Rattle.js_syntax.specs.ReservedWords.{word_of}
+pub use Rattle.js_syntax.specs.SymbolNumbers.{number}
 use Rattle.js_syntax.specs.TokenSpelling.{widest}
 use Rattle.js_syntax.specs.declared.token.Token.{Token}
 use Rattle.js_syntax.specs.declared.token.TokenKind.{TokenKind}
@@ -9,52 +12,9 @@ use Rattle.js_syntax.specs.declared.token.TokenKind.TheVariants as kind
 use Rattle.js_syntax.specs.declared.symbol.Symbol.{Symbol}
 use Rattle.js_syntax.specs.declared.symbol.Symbol.TheVariants as s
 
--- a reserved word by its bytes (ECMAScript, 12.7.2; `let` and `yield` are reserved here everywhere)
-unfoldable pub word_of : List ℕ → Symbol
-word_of w =
-    if bytes_eq w (codes "break") then s.Break else (
-    if bytes_eq w (codes "case") then s.Reserved else (
-    if bytes_eq w (codes "catch") then s.Catch else (
-    if bytes_eq w (codes "class") then s.Reserved else (
-    if bytes_eq w (codes "const") then s.Reserved else (
-    if bytes_eq w (codes "continue") then s.Continue else (
-    if bytes_eq w (codes "debugger") then s.Reserved else (
-    if bytes_eq w (codes "default") then s.Reserved else (
-    if bytes_eq w (codes "delete") then s.Delete else (
-    if bytes_eq w (codes "do") then s.Reserved else (
-    if bytes_eq w (codes "else") then s.Else else (
-    if bytes_eq w (codes "enum") then s.Reserved else (
-    if bytes_eq w (codes "export") then s.Reserved else (
-    if bytes_eq w (codes "extends") then s.Reserved else (
-    if bytes_eq w (codes "false") then s.False else (
-    if bytes_eq w (codes "finally") then s.Finally else (
-    if bytes_eq w (codes "for") then s.For else (
-    if bytes_eq w (codes "function") then s.Function else (
-    if bytes_eq w (codes "if") then s.If else (
-    if bytes_eq w (codes "import") then s.Reserved else (
-    if bytes_eq w (codes "in") then s.In else (
-    if bytes_eq w (codes "instanceof") then s.InstanceOf else (
-    if bytes_eq w (codes "let") then s.Reserved else (
-    if bytes_eq w (codes "new") then s.New else (
-    if bytes_eq w (codes "null") then s.Null else (
-    if bytes_eq w (codes "return") then s.Return else (
-    if bytes_eq w (codes "super") then s.Reserved else (
-    if bytes_eq w (codes "switch") then s.Reserved else (
-    if bytes_eq w (codes "this") then s.This else (
-    if bytes_eq w (codes "throw") then s.Throw else (
-    if bytes_eq w (codes "true") then s.True else (
-    if bytes_eq w (codes "try") then s.Try else (
-    if bytes_eq w (codes "typeof") then s.TypeOf else (
-    if bytes_eq w (codes "var") then s.Var else (
-    if bytes_eq w (codes "void") then s.Reserved else (
-    if bytes_eq w (codes "while") then s.While else (
-    if bytes_eq w (codes "with") then s.Reserved else (
-    if bytes_eq w (codes "yield") then s.Reserved else (
-    s.Other))))))))))))))))))))))))))))))))))))))
-
--- a mark by its bytes (ECMAScript, 12.8)
-unfoldable pub mark_of : List ℕ → Symbol
-mark_of m =
+-- a punctuator by its bytes (ECMAScript, 12.8)
+unfoldable pub punctuator_of : List ℕ → Symbol
+punctuator_of m =
     if bytes_eq m (codes "===") then s.Same else (
     if bytes_eq m (codes "!==") then s.NotSame else (
     if bytes_eq m (codes "==") then s.Equal else (
@@ -72,8 +32,8 @@ mark_of m =
     if bytes_eq m (codes "%=") then s.RemainBy else (
     if bytes_eq m (codes "{") then s.OpenBrace else (
     if bytes_eq m (codes "}") then s.CloseBrace else (
-    if bytes_eq m (codes "(") then s.Open else (
-    if bytes_eq m (codes ")") then s.Close else (
+    if bytes_eq m (codes "(") then s.OpenParen else (
+    if bytes_eq m (codes ")") then s.CloseParen else (
     if bytes_eq m (codes "[") then s.OpenBracket else (
     if bytes_eq m (codes "]") then s.CloseBracket else (
     if bytes_eq m (codes ";") then s.Semicolon else (
@@ -91,74 +51,6 @@ mark_of m =
     if bytes_eq m (codes ":") then s.Colon else (
     if bytes_eq m (codes "=") then s.Assign else (
     s.Other)))))))))))))))))))))))))))))))))))
-
--- a number for each symbol, so that symbols can be compared
-abbrev pub number : Symbol → ℕ
-number s.Other = 0
-number s.Name = 1
-number s.Get = 2
-number s.Set = 3
-number s.Number = 4
-number s.Str = 5
-number s.End = 6
-number s.Reserved = 7
-number s.Break = 8
-number s.Catch = 9
-number s.Continue = 10
-number s.Delete = 11
-number s.Else = 12
-number s.False = 13
-number s.Finally = 14
-number s.For = 15
-number s.Function = 16
-number s.If = 17
-number s.In = 18
-number s.InstanceOf = 19
-number s.New = 20
-number s.Null = 21
-number s.Return = 22
-number s.This = 23
-number s.Throw = 24
-number s.True = 25
-number s.Try = 26
-number s.TypeOf = 27
-number s.Var = 28
-number s.While = 29
-number s.Same = 30
-number s.NotSame = 31
-number s.Equal = 32
-number s.NotEqual = 33
-number s.AtMost = 34
-number s.AtLeast = 35
-number s.And = 36
-number s.Or = 37
-number s.Increment = 38
-number s.Decrement = 39
-number s.AddBy = 40
-number s.SubtractBy = 41
-number s.MultiplyBy = 42
-number s.DivideBy = 43
-number s.RemainBy = 44
-number s.OpenBrace = 45
-number s.CloseBrace = 46
-number s.Open = 47
-number s.Close = 48
-number s.OpenBracket = 49
-number s.CloseBracket = 50
-number s.Semicolon = 51
-number s.Comma = 52
-number s.Dot = 53
-number s.Less = 54
-number s.Greater = 55
-number s.Plus = 56
-number s.Minus = 57
-number s.Star = 58
-number s.Slash = 59
-number s.Percent = 60
-number s.Not = 61
-number s.Question = 62
-number s.Colon = 63
-number s.Assign = 64
 
 abbrev pub all_continue : List ℕ → Bool
 all_continue [] = true
@@ -203,7 +95,7 @@ symbol_of t = elim (t.kind) [
   | kind.Word ↦ word_of (encode_utf8_all t.text)
   | kind.Number ↦ number_symbol (number_of (encode_utf8_all t.text))
   | kind.Str ↦ s.Str
-  | kind.Punct ↦ mark_of (encode_utf8_all t.text)
+  | kind.Punct ↦ punctuator_of (encode_utf8_all t.text)
   | kind.End ↦ s.End
 ]
 

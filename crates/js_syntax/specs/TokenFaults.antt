@@ -5,26 +5,27 @@ use Rattle.base_text.specs.declared.text.TheConstants.{TEXT_LIMIT}
 use Rattle.js_syntax.specs.declared.token.TokenKind.{TokenKind}
 use Rattle.js_syntax.specs.declared.token_fault.LexKind.{LexKind}
 use Rattle.js_syntax.specs.declared.token_fault.LexKind.TheVariants.{BadScalar, UnclosedText, UnclosedComment, WideNumber, TooLong}
-use Rattle.js_syntax.specs.TokenScalars.{Scalars, AreAll, NotNext, is_white_space, is_line_end, is_name_start, is_name_part, is_decimal, is_stuck, is_quote}
+use Rattle.js_syntax.specs.TokenScalars.{Scalars, AreAll, NotNext, is_white_space, is_line_end, is_name_start, is_name_part, is_decimal, runs_on, is_quote}
 use Rattle.js_syntax.specs.TokenTexts.{Within, IsCut, Spells, IsBadEscape}
-use Rattle.js_syntax.specs.TokenSpelling.{opens_comment, HasNoClose, Numeral, widest, marks, IsIn, IsFront, Gap, Word}
+use Rattle.js_syntax.specs.TokenSpelling.{opens_comment, HasNoClose, Numeral, widest, punctuators, IsIn, IsFront, Gap, Word}
 
 -- A fault at the front of a text: how many bytes on, and its kind. Several may stand there.
-pub data Flaw : Scalars → ℕ → LexKind → Type 0 where
-  unclosed_comment : (inside : Scalars) → HasNoClose inside → Flaw (47 ∷ (42 ∷ inside)) 0 UnclosedComment
+pub data FrontFault : Scalars → ℕ → LexKind → Type 0 where
+  unclosed_comment : (inside : Scalars) → HasNoClose inside → FrontFault (47 ∷ (42 ∷ inside)) 0 UnclosedComment
   long_name : (c : ℕ) (cs rest : Scalars) → is_name_start c ≡ true → AreAll is_name_part cs → NotNext is_name_part rest → TEXT_LIMIT < utf8_len (c ∷ cs)
-      → Flaw ((c ∷ cs) ++ rest) 0 TooLong
-  wide_number : (n : ℕ) (w rest : Scalars) → Numeral n w rest → widest < n → Flaw (w ++ rest) 0 WideNumber
-  stuck : (n d : ℕ) (w rest : Scalars) → Numeral n w (d ∷ rest) → is_stuck d ≡ true → Flaw (w ++ d ∷ rest) (utf8_len w) BadScalar
-  unclosed_text : (quote : ℕ) (body rest : Scalars) → is_quote quote ≡ true → Within quote body rest → IsCut rest → Flaw (quote ∷ (body ++ rest)) 0 UnclosedText
+      → FrontFault ((c ∷ cs) ++ rest) 0 TooLong
+  wide_number : (n : ℕ) (w rest : Scalars) → Numeral n w rest → widest < n → FrontFault (w ++ rest) 0 WideNumber
+  number_runs_on : (n d : ℕ) (w rest : Scalars) → Numeral n w (d ∷ rest) → runs_on d ≡ true → FrontFault (w ++ d ∷ rest) (utf8_len w) BadScalar
+  unclosed_text : (quote : ℕ) (body rest : Scalars) → is_quote quote ≡ true → Within quote body rest → IsCut rest
+      → FrontFault (quote ∷ (body ++ rest)) 0 UnclosedText
   -- The value is too long already before an escape that is none.
   long_text : (quote : ℕ) (read left value rest : Scalars) → is_quote quote ≡ true → Within quote (read ++ left) (quote ∷ rest) → Spells read left value
-      → TEXT_LIMIT < utf8_len value → Flaw (quote ∷ ((read ++ left) ++ quote ∷ rest)) 0 TooLong
+      → TEXT_LIMIT < utf8_len value → FrontFault (quote ∷ ((read ++ left) ++ quote ∷ rest)) 0 TooLong
   bad_escape : (quote : ℕ) (read left value rest : Scalars) → is_quote quote ≡ true → Within quote (read ++ left) (quote ∷ rest) → Spells read left value
-      → IsBadEscape left → Flaw (quote ∷ ((read ++ left) ++ quote ∷ rest)) (utf8_len (quote ∷ read)) BadScalar
+      → IsBadEscape left → FrontFault (quote ∷ ((read ++ left) ++ quote ∷ rest)) (utf8_len (quote ∷ read)) BadScalar
   -- Nothing begins with this scalar.
   bad_scalar : (c : ℕ) (cs : Scalars) → is_white_space c ≡ false → is_line_end c ≡ false → is_name_start c ≡ false → is_decimal c ≡ false → is_quote c ≡ false
-      → opens_comment (c ∷ cs) ≡ false → ((m : Scalars) → IsIn m marks → IsFront m (c ∷ cs) → ⊥) → Flaw (c ∷ cs) 0 BadScalar
+      → opens_comment (c ∷ cs) ≡ false → ((m : Scalars) → IsIn m punctuators → IsFront m (c ∷ cs) → ⊥) → FrontFault (c ∷ cs) 0 BadScalar
 
 -- the order of the kinds at one place
 abbrev pub rank : LexKind → ℕ
@@ -39,13 +40,13 @@ abbrev pub IsNotAfter : ℕ → LexKind → ℕ → LexKind → Type 0
 IsNotAfter at kind other_at other_kind = (at < other_at) ⊎ ((at ≡ other_at) × (rank kind ≤ rank other_kind))
 
 -- the first of the faults at the front
-pub record IsFirstFlaw (text : Scalars) (on : ℕ) (kind : LexKind) : Type 0 where
-  pub stands : Flaw text on kind
-  pub first : (other_on : ℕ) (other_kind : LexKind) → Flaw text other_on other_kind → IsNotAfter on kind other_on other_kind
+pub record IsFirstFrontFault (text : Scalars) (on : ℕ) (kind : LexKind) : Type 0 where
+  pub stands : FrontFault text on kind
+  pub first : (other_on : ℕ) (other_kind : LexKind) → FrontFault text other_on other_kind → IsNotAfter on kind other_on other_kind
 
 -- The first fault of a text that begins at this place: gaps and tokens stand before it.
 pub data IsFaultFrom : ℕ → Scalars → ℕ → LexKind → Type 0 where
-  here : (at on : ℕ) (kind : LexKind) (text : Scalars) → IsFirstFlaw text on kind → IsFaultFrom at text (at + on) kind
+  here : (at on : ℕ) (kind : LexKind) (text : Scalars) → IsFirstFrontFault text on kind → IsFaultFrom at text (at + on) kind
   after_gap : (at place : ℕ) (kind : LexKind) (breaks : Bool) (g rest : Scalars) → Gap g rest breaks → IsFaultFrom (at + utf8_len g) rest place kind
       → IsFaultFrom at (g ++ rest) place kind
   after_word : (at place : ℕ) (kind : LexKind) (token_kind : TokenKind) (value w rest : Scalars) → Word token_kind value w rest

@@ -44,8 +44,8 @@ abbrev pub is_hexadecimal : ℕ → Bool
 is_hexadecimal c = is_digit c 16
 
 -- what may not stand directly behind a number (12.9.3 Numeric Literals): a digit, `.`, and what begins a name
-abbrev pub is_stuck : ℕ → Bool
-is_stuck c = is_decimal c || ((c == 46) || is_name_start c)
+abbrev pub runs_on : ℕ → Bool
+runs_on c = is_decimal c || ((c == 46) || is_name_start c)
 
 -- `"` and `'`
 abbrev pub is_quote : ℕ → Bool

@@ -1,14 +1,15 @@
 -- Gaps and tokens: how each is spelled, and what may follow it (ECMAScript, 12 Lexical Grammar).
-use Rattle.std.specs.Prelude.{◌≡◌, ◌≤◌, ◌⊎◌, ℕ, Bool, true, false, ◌||◌, ◌&&◌, cond, ◌==◌, List, [], ◌∷◌, ◌++◌, length, codes}
+use Rattle.std.specs.Prelude.{◌≡◌, ◌≤◌, ◌⊎◌, ℕ, Bool, true, false, ◌||◌, ◌&&◌, cond, ◌==◌, List, [], ◌∷◌, ◌++◌, length, codes, unsigned_abs}
 use Rattle.std.specs.Fmt.{decimal}
-use Rattle.std.specs.List.{list_any}
-use Rattle.std.specs.Str.{bytes_eq}
 use Rattle.std.specs.Str.Parse.{digits_value}
 use Rattle.base_text.specs.Scalars.{utf8_len}
+use Rattle.base_text.specs.declared.number.TheConstants.{MAX_SAFE_INTEGER}
 use Rattle.base_text.specs.declared.text.TheConstants.{TEXT_LIMIT}
 use Rattle.js_syntax.specs.declared.token.TokenKind.{TokenKind}
 use Rattle.js_syntax.specs.declared.token.TokenKind.TheVariants as kinds
-use Rattle.js_syntax.specs.TokenScalars.{Scalars, AreAll, NotNext, is_white_space, is_line_end, is_in_line, is_name_start, is_name_part, is_decimal, is_hexadecimal, is_stuck, is_quote}
+use Rattle.js_syntax.specs.TokenScalars.{Scalars, AreAll, NotNext, is_white_space, is_line_end, is_in_line}
+use Rattle.js_syntax.specs.TokenScalars.{is_name_start, is_name_part, is_decimal, is_hexadecimal, runs_on, is_quote}
+pub use Rattle.js_syntax.specs.ReservedWords.{is_reserved}
 use Rattle.js_syntax.specs.TokenTexts.{Within, Spells}
 
 -- ---- gaps
@@ -42,22 +43,9 @@ pub data Gap : Scalars → Scalars → Bool → Type 0 where
   line_comment : (inside rest : Scalars) → AreAll is_in_line inside → NotNext is_in_line rest → Gap (47 ∷ (47 ∷ inside)) rest false
   block_comment : (inside rest : Scalars) → HasNoClose inside → Gap (47 ∷ (42 ∷ (inside ++ 42 ∷ (47 ∷ [])))) rest (has_line_end inside)
 
--- ---- names, numbers and marks
+-- ---- names, numbers and punctuators
 
--- 12.7.2 Keywords and Reserved Words
-unfoldable pub reserved_words : List Scalars
-reserved_words =
-    codes "break" ∷ codes "case" ∷ codes "catch" ∷ codes "class" ∷ codes "const" ∷ codes "continue" ∷
-    codes "debugger" ∷ codes "default" ∷ codes "delete" ∷ codes "do" ∷ codes "else" ∷ codes "enum" ∷
-    codes "export" ∷ codes "extends" ∷ codes "false" ∷ codes "finally" ∷ codes "for" ∷ codes "function" ∷
-    codes "if" ∷ codes "import" ∷ codes "in" ∷ codes "instanceof" ∷ codes "let" ∷ codes "new" ∷
-    codes "null" ∷ codes "return" ∷ codes "super" ∷ codes "switch" ∷ codes "this" ∷ codes "throw" ∷
-    codes "true" ∷ codes "try" ∷ codes "typeof" ∷ codes "var" ∷ codes "void" ∷ codes "while" ∷
-    codes "with" ∷ codes "yield" ∷ []
-
-abbrev pub is_reserved : Scalars → Bool
-is_reserved w = list_any (bytes_eq w) reserved_words
-
+-- a reserved word or a name
 abbrev pub name_kind : Scalars → TokenKind
 name_kind w = cond (is_reserved w) kinds.Word kinds.Name
 
@@ -76,13 +64,13 @@ pub data Numeral : ℕ → Scalars → Scalars → Type 0 where
   hexadecimal : (c : ℕ) (cs rest : Scalars) → is_hexadecimal c ≡ true → AreAll is_hexadecimal cs → NotNext is_hexadecimal rest
       → Numeral (digits_value 16 (c ∷ cs)) (48 ∷ (120 ∷ (c ∷ cs))) rest
 
--- the widest number, 2^53 - 1
+-- the greatest number (21.1.2.6 Number.MAX_SAFE_INTEGER)
 abbrev pub widest : ℕ
-widest = 9007199254740991
+widest = unsigned_abs MAX_SAFE_INTEGER
 
 -- 12.8 Punctuators, those of this language
-unfoldable pub marks : List Scalars
-marks =
+unfoldable pub punctuators : List Scalars
+punctuators =
     codes "===" ∷ codes "!==" ∷ codes "==" ∷ codes "!=" ∷ codes "<=" ∷ codes ">=" ∷ codes "&&" ∷ codes "||" ∷
     codes "++" ∷ codes "--" ∷ codes "+=" ∷ codes "-=" ∷ codes "*=" ∷ codes "/=" ∷ codes "%=" ∷ codes "{" ∷
     codes "}" ∷ codes "(" ∷ codes ")" ∷ codes "[" ∷ codes "]" ∷ codes ";" ∷ codes "," ∷ codes "." ∷
@@ -97,11 +85,11 @@ IsIn x (y ∷ ys) = (x ≡ y) ⊎ IsIn x ys
 abbrev pub IsFront : Scalars → Scalars → Type 0
 IsFront w text = (rest : Scalars) × (text ≡ w ++ rest)
 
--- a mark, and what follows it: there is no comment, and no longer mark
-pub record IsMark (m rest : Scalars) : Type 0 where
-  pub listed : IsIn m marks
+-- a punctuator, and what follows it: there is no comment, and no longer punctuator
+pub record IsPunctuator (m rest : Scalars) : Type 0 where
+  pub listed : IsIn m punctuators
   pub no_comment : opens_comment (m ++ rest) ≡ false
-  pub longest : (x : Scalars) → IsIn x marks → IsFront x (m ++ rest) → length x ≤ length m
+  pub longest : (x : Scalars) → IsIn x punctuators → IsFront x (m ++ rest) → length x ≤ length m
 
 -- ---- tokens
 
@@ -109,7 +97,7 @@ pub record IsMark (m rest : Scalars) : Type 0 where
 pub data Word : TokenKind → Scalars → Scalars → Scalars → Type 0 where
   name : (c : ℕ) (cs rest : Scalars) → is_name_start c ≡ true → AreAll is_name_part cs → NotNext is_name_part rest → utf8_len (c ∷ cs) ≤ TEXT_LIMIT
       → Word (name_kind (c ∷ cs)) (c ∷ cs) (c ∷ cs) rest
-  number : (n : ℕ) (w rest : Scalars) → Numeral n w rest → n ≤ widest → NotNext is_stuck rest → Word kinds.Number (decimal n) w rest
+  number : (n : ℕ) (w rest : Scalars) → Numeral n w rest → n ≤ widest → NotNext runs_on rest → Word kinds.Number (decimal n) w rest
   text : (quote : ℕ) (body value rest : Scalars) → is_quote quote ≡ true → Within quote body (quote ∷ rest) → Spells body [] value → utf8_len value ≤ TEXT_LIMIT
       → Word kinds.Str value (quote ∷ (body ++ quote ∷ [])) rest
-  mark : (m rest : Scalars) → IsMark m rest → Word kinds.Punct m m rest
+  punctuator : (m rest : Scalars) → IsPunctuator m rest → Word kinds.Punct m m rest

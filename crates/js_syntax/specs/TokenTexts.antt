@@ -1,7 +1,8 @@
 -- What stands between the quotes of a text, and which value it spells (ECMAScript, 12.9.4 String Literals).
 use Rattle.std.specs.Prelude.{◌≡◌, ◌≤◌, ℕ, Bool, true, false, not, ◌||◌, ◌&&◌, cond, ◌==◌, [], ◌∷◌, ◌++◌, Option, Some, None, length}
 use Rattle.std.specs.Str.Parse.{digits_value}
-use Rattle.js_syntax.specs.TokenScalars.{Scalars, AreAll, NotNext, is_line_end, is_line_feed, is_decimal, is_hexadecimal, is_high_surrogate, is_low_surrogate, is_surrogate, paired}
+use Rattle.js_syntax.specs.TokenScalars.{Scalars, AreAll, NotNext, is_line_end, is_line_feed, is_decimal}
+use Rattle.js_syntax.specs.TokenScalars.{is_hexadecimal, is_high_surrogate, is_low_surrogate, is_surrogate, paired}
 
 -- neither the quote that ends the text, nor a backslash, LF or CR
 abbrev pub is_plain : ℕ → ℕ → Bool
@@ -38,8 +39,10 @@ is_own_escape c = not (is_decimal c || ((c == 120) || ((c == 117) || is_line_end
 
 -- `uHHHH`, or `u{H}` with one to six digits, and the number, up to 10FFFF
 pub data IsUnicode : Scalars → ℕ → Type 0 where
-  four : (a b c d : ℕ) → AreAll is_hexadecimal (a ∷ (b ∷ (c ∷ (d ∷ [])))) → IsUnicode (117 ∷ (a ∷ (b ∷ (c ∷ (d ∷ []))))) (digits_value 16 (a ∷ (b ∷ (c ∷ (d ∷ [])))))
-  braced : (ds : Scalars) → AreAll is_hexadecimal ds → 1 ≤ length ds → length ds ≤ 6 → digits_value 16 ds ≤ 0x10FFFF → IsUnicode (117 ∷ (123 ∷ (ds ++ 125 ∷ []))) (digits_value 16 ds)
+  four : (a b c d : ℕ) → AreAll is_hexadecimal (a ∷ (b ∷ (c ∷ (d ∷ []))))
+      → IsUnicode (117 ∷ (a ∷ (b ∷ (c ∷ (d ∷ []))))) (digits_value 16 (a ∷ (b ∷ (c ∷ (d ∷ [])))))
+  braced : (ds : Scalars) → AreAll is_hexadecimal ds → 1 ≤ length ds → length ds ≤ 6 → digits_value 16 ds ≤ 0x10FFFF
+      → IsUnicode (117 ∷ (123 ∷ (ds ++ 125 ∷ []))) (digits_value 16 ds)
 
 -- an escape, what follows it within the text, and what it gives
 pub data Escape : Scalars → Scalars → Scalars → Type 0 where

@@ -17,7 +17,8 @@ pub data AreTokensFrom : ℕ → Bool → Scalars → List Token → Type 0 wher
   end : (at : ℕ) (line : Bool) → AreTokensFrom at line [] (token_at at line kinds.End [] [] ∷ [])
   gap : (at : ℕ) (line breaks : Bool) (g rest : Scalars) (ts : List Token) → Gap g rest breaks → AreTokensFrom (at + utf8_len g) (line || breaks) rest ts
       → AreTokensFrom at line (g ++ rest) ts
-  word : (at : ℕ) (line : Bool) (kind : TokenKind) (value w rest : Scalars) (ts : List Token) → Word kind value w rest → AreTokensFrom (at + utf8_len w) false rest ts
+  word : (at : ℕ) (line : Bool) (kind : TokenKind) (value w rest : Scalars) (ts : List Token) → Word kind value w rest
+      → AreTokensFrom (at + utf8_len w) false rest ts
       → AreTokensFrom at line (w ++ rest) (token_at at line kind value w ∷ ts)
 
 -- the tokens of a whole text

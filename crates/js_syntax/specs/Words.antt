@@ -10,6 +10,7 @@ use Rattle.js_syntax.specs.declared.tree.UpdateOp.TheVariants as update
 use Rattle.js_syntax.specs.declared.tree.Expr.{Expr, out-Expr}
 use Rattle.js_syntax.specs.declared.tree.Expr.TheVariants as ex
 use Rattle.js_syntax.specs.declared.tree.Expr.TheOpen.{Expr-F}
+use Rattle.js_syntax.specs.ReservedWords.{reserved_symbols}
 use Rattle.js_syntax.specs.Symbols.{among, is, number_of}
 
 -- ---- names and keys
@@ -19,7 +20,7 @@ names = s.Name ∷ s.Get ∷ s.Set ∷ []
 
 -- what may stand after a `.`: a name or a reserved word (ECMAScript, 13.3)
 abbrev pub member_names : List Symbol
-member_names = s.Name ∷ s.Get ∷ s.Set ∷ s.Reserved ∷ s.Break ∷ s.Catch ∷ s.Continue ∷ s.Delete ∷ s.Else ∷ s.False ∷ s.Finally ∷ s.For ∷ s.Function ∷ s.If ∷ s.In ∷ s.InstanceOf ∷ s.New ∷ s.Null ∷ s.Return ∷ s.This ∷ s.Throw ∷ s.True ∷ s.Try ∷ s.TypeOf ∷ s.Var ∷ s.While ∷ []
+member_names = s.Name ∷ s.Get ∷ s.Set ∷ reserved_symbols
 
 -- a key of an object literal: these, a text or a number (ECMAScript, 13.2.5)
 abbrev pub keys : List Symbol
@@ -27,7 +28,7 @@ keys = s.Number ∷ s.Str ∷ member_names
 
 -- the keys that begin no getter and no setter
 abbrev pub plain_keys : List Symbol
-plain_keys = s.Number ∷ s.Str ∷ s.Name ∷ s.Reserved ∷ s.Break ∷ s.Catch ∷ s.Continue ∷ s.Delete ∷ s.Else ∷ s.False ∷ s.Finally ∷ s.For ∷ s.Function ∷ s.If ∷ s.In ∷ s.InstanceOf ∷ s.New ∷ s.Null ∷ s.Return ∷ s.This ∷ s.Throw ∷ s.True ∷ s.Try ∷ s.TypeOf ∷ s.Var ∷ s.While ∷ []
+plain_keys = s.Number ∷ s.Str ∷ s.Name ∷ reserved_symbols
 
 -- ---- an expression of one token
 
@@ -56,7 +57,7 @@ is_target a = elim (out-Expr a) [ Expr-F.Name n ↦ true | Expr-F.Member o n ↦
 
 -- a member, an element, a call
 abbrev pub suffixes : List Symbol
-suffixes = s.Dot ∷ s.OpenBracket ∷ s.Open ∷ []
+suffixes = s.Dot ∷ s.OpenBracket ∷ s.OpenParen ∷ []
 
 -- the suffixes of what a `new` is applied to
 abbrev pub member_suffixes : List Symbol
@@ -85,13 +86,13 @@ prefixed x a = ex.Unary unary.Minus a
 
 -- the levels of left chains, strongest first; `in` is an operator but in the first part of the head of a `for`
 abbrev pub operators : Bool → ℕ → List Symbol
-operators in_is zero = s.Star ∷ s.Slash ∷ s.Percent ∷ []
-operators in_is (suc zero) = s.Plus ∷ s.Minus ∷ []
+operators in_allowed zero = s.Star ∷ s.Slash ∷ s.Percent ∷ []
+operators in_allowed (suc zero) = s.Plus ∷ s.Minus ∷ []
 operators true (suc (suc zero)) = s.Less ∷ s.Greater ∷ s.AtMost ∷ s.AtLeast ∷ s.InstanceOf ∷ s.In ∷ []
 operators false (suc (suc zero)) = s.Less ∷ s.Greater ∷ s.AtMost ∷ s.AtLeast ∷ s.InstanceOf ∷ []
-operators in_is (suc (suc (suc zero))) = s.Same ∷ s.NotSame ∷ s.Equal ∷ s.NotEqual ∷ []
-operators in_is (suc (suc (suc (suc zero)))) = s.And ∷ []
-operators in_is n = s.Or ∷ []
+operators in_allowed (suc (suc (suc zero))) = s.Same ∷ s.NotSame ∷ s.Equal ∷ s.NotEqual ∷ []
+operators in_allowed (suc (suc (suc (suc zero)))) = s.And ∷ []
+operators in_allowed n = s.Or ∷ []
 
 abbrev pub operation : Symbol → Expr → Expr → Expr
 operation s.Star a b = ex.Binary binary.Multiply a b

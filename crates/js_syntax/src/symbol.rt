@@ -1,14 +1,16 @@
-//! What a token is to the grammar of scripts.
+//! The terminal symbols of the grammar, and which of them a token is (ECMAScript, 12).
 ghost use Rattle.std.specs.Prelude.{◌≡◌, ◌&&◌};
 ghost use Rattle.std.specs.Str.{chars};
 ghost use Rattle.js_syntax.specs.TokenScalars.{is_name_start, is_name_part};
-ghost use Rattle.js_syntax.specs.Symbols.{word_of, mark_of, is_spelled, name_of, number_from, number_of, symbol_of, number};
+ghost use Rattle.js_syntax.specs.ReservedWords.{is_reserved_word, reserved_symbols};
+ghost use Rattle.js_syntax.specs.SymbolNumbers.{amid};
+ghost use Rattle.js_syntax.specs.Symbols.{word_of, punctuator_of, is_spelled, name_of, number_from, number_of, symbol_of, number};
 
 use crate::token::{Token, TokenKind};
-use base_text::Text;
+use base_text::{MAX_SAFE_INTEGER, Text};
 
-/// The symbols of the grammar: each reserved word and mark that it names, and the kinds of the other
-/// tokens.
+/// The terminal symbols of the grammar: each reserved word and punctuator that it names, and the kinds
+/// of the other tokens.
 #[derive(Clone, Copy, Debug, PartialEq, Eq)]
 pub enum Symbol {
     /// What no lexer makes: a token whose text isn't a spelling of its kind.
@@ -84,9 +86,9 @@ pub enum Symbol {
     /// `}`
     CloseBrace,
     /// `(`
-    Open,
+    OpenParen,
     /// `)`
-    Close,
+    CloseParen,
     /// `[`
     OpenBracket,
     /// `]`
@@ -122,7 +124,7 @@ pub enum Symbol {
 }
 
 /// The symbol of a reserved word.
-#[tactic(auto, unfolding(crate::specs::Symbols::word_of))]
+#[tactic(auto, unfolding(crate::specs::ReservedWords::word_of))]
 fn word(spelling: &str) -> Symbol
     ensures { result ≡ word_of spelling.now }
 {
@@ -169,10 +171,17 @@ fn word(spelling: &str) -> Symbol
     }
 }
 
-/// The symbol of a mark.
-#[tactic(auto, unfolding(crate::specs::Symbols::mark_of))]
-fn mark(spelling: &str) -> Symbol
-    ensures { result ≡ mark_of spelling.now }
+/// Whether the text is a reserved word.
+pub fn is_reserved_word(text: &str) -> bool
+    ensures { result ≡ is_reserved_word text.now }
+{
+    !matches!(word(text), Symbol::Other)
+}
+
+/// The symbol of a punctuator.
+#[tactic(auto, unfolding(crate::specs::Symbols::punctuator_of))]
+fn punctuator(spelling: &str) -> Symbol
+    ensures { result ≡ punctuator_of spelling.now }
 {
     match spelling {
         "===" => Symbol::Same,
@@ -192,8 +201,8 @@ fn mark(spelling: &str) -> Symbol
         "%=" => Symbol::RemainBy,
         "{" => Symbol::OpenBrace,
         "}" => Symbol::CloseBrace,
-        "(" => Symbol::Open,
-        ")" => Symbol::Close,
+        "(" => Symbol::OpenParen,
+        ")" => Symbol::CloseParen,
         "[" => Symbol::OpenBracket,
         "]" => Symbol::CloseBracket,
         ";" => Symbol::Semicolon,
@@ -261,9 +270,6 @@ fn name(text: &Text) -> Symbol
     }
 }
 
-/// The widest number, 2^53 - 1.
-const WIDEST: u64 = 9_007_199_254_740_991;
-
 #[tactic(auto, unfolding(crate::specs::Symbols::number_from))]
 fn number_from(mut digits: &[u8]) -> Option<u64>
     ensures { result ≡ number_from 0 digits.entry.now }
@@ -274,7 +280,7 @@ fn number_from(mut digits: &[u8]) -> Option<u64>
             return None;
         }
         value = value * 10 + (*digit - b'0') as u64;
-        if value > WIDEST {
+        if value > MAX_SAFE_INTEGER as u64 {
             return None;
         }
         digits = rest;
@@ -293,6 +299,40 @@ pub fn number_of(digits: &str) -> Option<u64>
     }
 }
 
+impl Symbol {
+    /// Whether it is the symbol of a reserved word.
+    pub fn is_reserved_word(self) -> bool
+        ensures { result ≡ amid reserved_symbols (number self) }
+    {
+        matches!(
+            self,
+            Symbol::Reserved
+                | Symbol::Break
+                | Symbol::Catch
+                | Symbol::Continue
+                | Symbol::Delete
+                | Symbol::Else
+                | Symbol::False
+                | Symbol::Finally
+                | Symbol::For
+                | Symbol::Function
+                | Symbol::If
+                | Symbol::In
+                | Symbol::InstanceOf
+                | Symbol::New
+                | Symbol::Null
+                | Symbol::Return
+                | Symbol::This
+                | Symbol::Throw
+                | Symbol::True
+                | Symbol::Try
+                | Symbol::TypeOf
+                | Symbol::Var
+                | Symbol::While
+        )
+    }
+}
+
 impl Token {
     /// What the token is to the grammar.
     #[tactic(auto, unfolding(crate::specs::Symbols::symbol_of))]
@@ -307,7 +347,7 @@ impl Token {
                 None => Symbol::Other,
             },
             TokenKind::Str => Symbol::Str,
-            TokenKind::Punct => mark(self.text.as_str()),
+            TokenKind::Punct => punctuator(self.text.as_str()),
             TokenKind::End => Symbol::End,
         }
     }

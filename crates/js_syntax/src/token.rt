@@ -14,7 +14,7 @@ pub enum TokenKind {
     Number,
     /// A text between quotes.
     Str,
-    /// A mark, such as `+=`.
+    /// A punctuator, such as `+=`.
     Punct,
     /// The end of the text.
     End,
@@ -24,7 +24,7 @@ pub enum TokenKind {
 #[derive(Debug, PartialEq, Eq, Drop)]
 pub struct Token {
     pub kind: TokenKind,
-    /// Of a name, a word or a mark its spelling; of a text its value; of a number the value's decimal
+    /// Of a name, a word or a punctuator its spelling; of a text its value; of a number the value's decimal
     /// digits; of the end nothing.
     pub text: Text,
     /// The place of its first byte, in bytes from the text's beginning.

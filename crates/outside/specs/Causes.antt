@@ -1,5 +1,5 @@
 -- When a call on the outside fails: this project's own words.
-use Rattle.std.specs.Prelude.{◌≤◌, ◌+◌, ◌-◌, ◌^◌, ℕ, min, Result, Ok, Err, IsErrOf}
+use Rattle.std.specs.Prelude.{◌≡◌, ◌≤◌, ◌+◌, ◌-◌, ◌^◌, ℕ, min, Result, Ok, Err, IsErrOf, OnOk}
 use Rattle.outside.specs.declared.traits.Lost.{Lost}
 use Rattle.outside.specs.declared.traits.Lost.TheVariants.{Failed, NoMemory}
 
@@ -11,10 +11,11 @@ risen count = min (count + 1) (2 ^ 64 - 1)
 abbrev pub Rose : ℕ → ℕ → Type 0
 Rose before now = risen before ≤ now
 
--- The count of faults doesn't fall, and it rose where the call failed.
+-- The count of faults doesn't fall: it rose where the call failed, and is as before where it went well.
 pub record HasCause {T : Type 0} (before now : ℕ) (result : Result T Lost) : Type 0 where
   pub later : before ≤ now
   pub failed : IsErrOf result Failed → Rose before now
+  pub steady : OnOk result (now ≡ before)
 
 -- the count of faults after this refusal
 abbrev pub after_refusal : ℕ → Lost → ℕ

@@ -1,5 +1,5 @@
 -- What the objects of the outside hold: this project's own words.
-use Rattle.std.specs.Prelude.{◌≡◌, ◌≢◌, ◌≤◌, ◌↔◌, ℕ, List, ◌++◌, length, take, map, find, All, AllPairs, Contains, Option, Some, IfSome, IsSome, String, Vec, string_bytes}
+use Rattle.std.specs.Prelude.{◌≡◌, ◌≢◌, ◌≤◌, ◌<◌, ◌↔◌, ℕ, List, ◌++◌, length, take, map, find, All, AllPairs, Contains, Option, Some, IfSome, IsSome, String, Vec, string_bytes}
 use Rattle.std.specs.Option.{option_map}
 use Rattle.std.specs.Str.{bytes_eq}
 use Rattle.std.specs.declared.alloc.Global.{Global}
@@ -48,9 +48,9 @@ pub record AreNamesOf (files : Files) (names : List (List ℕ)) : Type 0 where
 abbrev pub Appends : Option (List ℕ) → Option (List ℕ) → List ℕ → Type 0
 Appends old new more = IfSome old (λ bytes. new ≡ Some (bytes ++ more))
 
--- the same with a prefix of these bytes
-abbrev pub AppendsPrefix : Option (List ℕ) → Option (List ℕ) → List ℕ → Type 0
-AppendsPrefix old new more = (k : ℕ) × (k ≤ length more) × Appends old new (take k more)
+-- the same with a proper prefix of these bytes, so at least the last one is missing
+abbrev pub AppendsProperPrefix : Option (List ℕ) → Option (List ℕ) → List ℕ → Type 0
+AppendsProperPrefix old new more = (k : ℕ) × (k < length more) × Appends old new (take k more)
 
 -- Where it was told what is kept, it still is, and it is these bytes.
 abbrev pub Keeps : Option (Option (List ℕ)) → Option (Option (List ℕ)) → List ℕ → Type 0

@@ -1,6 +1,6 @@
 //! The three objects that the host knows of the outside, so that it runs over files or over memory alike.
 ghost use Rattle.outside.specs.Causes.{HasCause};
-ghost use Rattle.outside.specs.Contents.{Files, content, AreNamesOf, AreShort, Appends, AppendsPrefix, Keeps};
+ghost use Rattle.outside.specs.Contents.{Files, content, AreNamesOf, AreShort, Appends, AppendsProperPrefix, Keeps};
 ghost use Rattle.std.specs.Prelude.{◌≡◌, ◌<◌, ◌≤◌, ◌⊎◌, List, ℕ, map, length, take, Option, IfOk, OnOk, OnErr, IsErrOf, IfSome};
 ghost use Rattle.std.specs.Option.{option_map};
 ghost use Rattle.std.specs.String.{string_bytes};
@@ -137,10 +137,11 @@ pub trait Sink {
 /// Writes all the bytes, in as many writes as the sink takes them.
 ///
 /// # Errors
-/// The refusal of the first write that is refused. A prefix of the bytes was written by then.
+/// The refusal of the first write that is refused. A proper prefix of the bytes was written by then.
 pub fn write_all<S: Sink>(out: &mut S, bytes: &[u8]) -> Result<(), Lost>
     ensures ok { OnOk result (Appends (S.written out.old) (S.written out.new) bytes.now) }
-    ensures err { OnErr result (AppendsPrefix (S.written out.old) (S.written out.new) bytes.now) }
+    ensures err { OnErr result (AppendsProperPrefix (S.written out.old) (S.written out.new) bytes.now) }
+    ensures memory { IsErrOf result Lost.NoMemory → S.faults out.new ≡ S.faults out.old }
     ensures cause { HasCause (S.faults out.old) (S.faults out.new) result }
 {
     let mut at = 0;

@@ -6,10 +6,9 @@ use Rattle.door.specs.declared.marks.Mark.{Mark}
 use Rattle.door.specs.declared.marks.Task.{Task}
 use Rattle.door.specs.declared.values.Actor.{Actor}
 use Rattle.solo_model.specs.Closed.{ActsAreSolo, ActsAreSoloSoFar, AreSolo, Setups, closed_deeds}
-use Rattle.solo_model.specs.Solo.{Deed, IsSoloFrom, deeds_of, shows_of}
-use Rattle.solo_model.specs.View.{view_from}
+use Rattle.solo_model.specs.Solo.{Deed}
 use Rattle.solo_model.specs.Lawful.{AreTurns, AreTurnsSoFar, Input, IsLawful, IsLawfulSoFar, tasks_of}
-use Rattle.page_host.specs.Run.{AllActsAreSolo, IsRightOver, IsRightSoFar, setups_of}
+use Rattle.page_host.specs.Run.{IsRightOver, IsRightSoFar, setups_of}
 
 turns_begun : (input : Input) (before : List Mark) (tasks : List Task) (marks : List Mark) → AreTurns input before tasks marks → AreTurnsSoFar input before tasks marks
 unfolding AreTurnsSoFar AreTurns
@@ -24,23 +23,18 @@ acts_begun setups i marks is =
     let P : List Deed → Type 0 = λ deeds. AreSolo setups i marks deeds in
     record { due = []; one = omega arith; none = λ idle. refl; same = subst P (sym (append-nil (closed_deeds setups i marks))) is }
 
-no_acts : (setups : Setups) (i : Actor) → ActsAreSoloSoFar setups i []
-unfolding IsSoloFrom shows_of view_from deeds_of
-no_acts setups i = record { due = []; one = omega arith; none = λ idle. refl; same = refl }
-
 -- the empty journal
 pub empty_right : (words : List (List ℕ)) (told : Option Files) (marks : List Mark) → marks ≡ [] → IsRightSoFar words told marks
 empty_right words told marks none =
     let P : List Mark → Type 0 = λ ms. IsRightSoFar words told ms in
-    subst P (sym none) (record { lawful = inl refl; genuine = tt; acts = λ address i other. no_acts (setups_of address) i })
+    subst P (sym none) (record { lawful = inl refl; genuine = tt })
 
 -- a whole journal
-pub whole_right : (words : List (List ℕ)) (told : Option Files) (marks other : List Mark) (bytes : List ℕ) → other ≡ marks → IsRightOver words told marks bytes → ((address : List ℕ) → AllActsAreSolo address marks) → IsRightSoFar words told other
-whole_right words told marks other bytes same over acts =
+pub whole_right : (words : List (List ℕ)) (told : Option Files) (marks other : List Mark) (bytes : List ℕ) → other ≡ marks → IsRightOver words told marks bytes → IsRightSoFar words told other
+whole_right words told marks other bytes same over =
     let P : List Mark → Type 0 = λ ms. IsRightSoFar words told ms in
     subst P (sym same)
     (record {
-      lawful = inr (record { files = over.files; told_so = over.told_so; given = over.right.given; lawful = lawful_begun _ marks over.right.lawful });
+      lawful = inr (record { files = over.files; known = over.known; given = over.right.given; lawful = lawful_begun _ marks over.right.lawful; acts = λ i ne. acts_begun (setups_of over.right.given.address) i marks (over.right.acts i ne) });
       genuine = over.right.genuine;
-      acts = λ address i ne. acts_begun (setups_of address) i marks (acts address i ne);
     })

@@ -11,7 +11,7 @@ use Rattle.std.proofs.lemmas.Slice.Eq.{bytes_eq-Decides}
 use Rattle.outside.specs.Contents.{Files, content}
 use Rattle.small_forms.specs.declared.userscript.Userscript.{Userscript}
 use Rattle.page_host.specs.Names.{AreInOrder, IsScriptNames, is_userscript}
-use Rattle.page_host.specs.Prepared.{AreChosen}
+use Rattle.page_host.specs.Loaded.{AreChosen}
 use Rattle.page_host.specs.Scripts.{AreHeld}
 use Rattle.page_host.proofs.NameLists.{at_or, here, there, nowhere, cases, not_below, some_not_none, userscript_at}
 

@@ -6,7 +6,7 @@ pub mod Folders
 pub mod ScriptLists
 pub mod Reading
 pub mod Begun
-pub mod Prepared
+pub mod Running
 pub mod Stages
 pub mod Adding
 pub mod Playing

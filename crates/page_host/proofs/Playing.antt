@@ -1,8 +1,10 @@
 -- What was read is what a run is given, and each actor of the run does what its own machine does.
+use Rattle.base_text.specs.declared.text.TheConstants.{TEXT_LIMIT}
 use Rattle.std.proofs.Common.{◌≡◌, refl, inl, ap, ℕ, ◌+◌, ◌≤◌, Bool, true, false, List, [], ◌∷◌, ◌++◌, length, arith, codes, nat_eq, if◌then◌else◌}
 use Rattle.std.specs.List.{flat_map}
 use Rattle.std.proofs.lemmas.Bool.Decides.{nat_tests}
 use Rattle.std.proofs.lemmas.List.{length-append, length-map}
+use Rattle.door.specs.declared.limits.TheConstants.{USERSCRIPT_LIMIT}
 use Rattle.door.specs.declared.marks.Mark.{Mark}
 use Rattle.door.specs.declared.marks.Entry.TheVariants.{Script}
 use Rattle.door.specs.declared.requests.Request.{Request}
@@ -14,9 +16,9 @@ use Rattle.small_forms.specs.declared.script.Line.{Line}
 use Rattle.small_forms.specs.declared.userscript.Userscript.{Userscript}
 use Rattle.small_forms.specs.Pages.{IsPage, blocks_text, element_text}
 use Rattle.small_forms.specs.Scripts.{IsPageScript, IsUserscript}
-use Rattle.script_meaning.specs.Entries.{beginning, enters}
-use Rattle.script_meaning.specs.Intrinsics.{Setup}
-use Rattle.script_meaning.specs.Solo.{Fails}
+use Rattle.js_semantics.specs.Entries.{LEVELS, beginning, enters}
+use Rattle.js_semantics.specs.Intrinsics.{Setup}
+use Rattle.js_semantics.specs.Solo.{Stuck}
 use Rattle.solo_model.specs.Closed.{is_plain}
 use Rattle.solo_model.specs.Lawful.{IsLawful, Piece, tasks_of}
 use Rattle.solo_model.specs.Solo.{Deed, IsSoloFrom, Show, deeds_of, shows_of}
@@ -24,8 +26,8 @@ use Rattle.solo_model.specs.Things.{userscript}
 use Rattle.solo_model.specs.Truth.{IsGenuine}
 use Rattle.solo_model.specs.View.{at_start, view_of}
 use Rattle.solo_model.proofs.Journals.{AreApart, solo-acts}
-use Rattle.solo_model.proofs.Solos.{leads-solo}
-use Rattle.script_meaning.specs.Entries.{Spells}
+use Rattle.solo_model.proofs.Solos.{reaches-solo}
+use Rattle.js_semantics.specs.Entries.{Spells}
 use Rattle.small_scripts.specs.Trees.{body_of}
 use Rattle.small_meaning.specs.Rows.{Fresh, Reads, beginning as small_beginning, enters as small_enters}
 use Rattle.small_meaning.specs.Shows.{AreFit, FitsEntry, MayRun, entries_in}
@@ -108,7 +110,7 @@ pieces_length n begun (text ∷ texts) = omega (arith, pieces_length (after_scri
 pub record SmallLaws : Type 0 where
   pub solos : (setup : Setup) (shows : List Show) (deeds : List Deed) → MayRun setup.zone setup.grants → AreFit setup.zone shows → entries_in shows ≤ 1000 → IsSoloFrom (small_enters setup) small_beginning shows deeds
       → IsSoloFrom enters (beginning setup) shows deeds
-  pub page : (text : List ℕ) (lines : List Line) → IsPageScript text lines → length text ≤ 262144 → Spells text (body_of PageZone lines)
+  pub page : (text : List ℕ) (lines : List Line) → IsPageScript text lines → length text ≤ TEXT_LIMIT → Spells text (body_of PageZone lines)
   pub userscript : (text name : List ℕ) (lines : List Line) → IsUserscript text name lines → Spells text (body_of XrayScript lines)
 
 spelled : SmallLaws → (zone : Zone) (text : List ℕ) (lines : List Line) → length text ≤ 65536 → Reads zone text lines → Spells text (body_of zone lines)
@@ -130,7 +132,7 @@ unfolding among
 all_may_run address i = may_run (nat_eq i.0 1) (record { zone = PageZone; grants = no_grants; address = address }) (record { zone = XrayScript; grants = log_grant; address = address }) tt refl
 
 -- who waits in the end has done what its own machine does
-pub all_solo : SmallLaws → (address bytes : List ℕ) (page : Page) (scripts : List Userscript) (marks : List Mark) → IsPage bytes page → AreScripts scripts → length scripts ≤ 8
+pub all_solo : SmallLaws → (address bytes : List ℕ) (page : Page) (scripts : List Userscript) (marks : List Mark) → IsPage bytes page → AreScripts scripts → length scripts ≤ USERSCRIPT_LIMIT
     → IsLawful (input_of page (texts_in scripts)) marks → IsGenuine marks → AreIdle (setups_of address) marks → AllActsAreSolo address marks
 all_solo laws address bytes page scripts marks is_page are_scripts few lawful genuine idle = λ i other.
     let setup = setups_of address i in
@@ -141,7 +143,7 @@ all_solo laws address bytes page scripts marks is_page are_scripts few lawful ge
     let entries = turns_enter P input [] (tasks_of input) marks (record { pieces = pieces; starts = starts }) lawful in
     let pieces_are = pieces_length (after_blocks page.blocks) (head_writes page.title ++ block_writes page.blocks) page.scripts in
     let shown_few = entries_few i at_start marks in
-    let are_few : entries_in (shows_of (view_of i marks)) ≤ 1000 = omega (arith, shown_few, entries.few, tasks_length input, pieces_are, is_page.few, texts_few scripts 8 few) in
+    let are_few : entries_in (shows_of (view_of i marks)) ≤ 1000 = omega (arith, shown_few, entries.few, tasks_length input, pieces_are, is_page.few, texts_few scripts USERSCRIPT_LIMIT few) in
     let fit = shown_fit setup.zone i at_start [] marks (inl refl) genuine entries.texts in
-    let small = leads-solo (small_enters setup) small_beginning 480 Fresh (λ m given. Fails) (view_of i marks) (idle i other).leads in
+    let small = reaches-solo (small_enters setup) small_beginning LEVELS Fresh (λ m given. Stuck) (view_of i marks) (idle i other).reaches in
     solo-acts (setups_of address) i marks (apart address) genuine (laws.solos setup (shows_of (view_of i marks)) (deeds_of (view_of i marks)) (all_may_run address i) fit are_few small)

@@ -1,7 +1,7 @@
 -- The first refusal is one, and there is none where words and files are of the form.
 use Rattle.std.proofs.Common.{◌≡◌, ◌∙◌, ap, sym, List, ℕ, [], ◌∷◌, inl, inr}
 use Rattle.outside.specs.Contents.{Files}
-use Rattle.page_host.specs.Names.{told_count}
+use Rattle.page_host.specs.Names.{counted}
 use Rattle.page_host.specs.Steps.{Step, ReadWords, BuiltWords, FewScripts, NoEvents, PageThere, BuiltPage, BuiltScripts, IsFaultAt, IsFirstFault, AllWanted}
 use Rattle.page_host.specs.declared.faults.HostFault.{HostFault}
 use Rattle.page_host.specs.declared.faults.HostFault.TheVariants.{TooManyScripts}
@@ -10,7 +10,7 @@ use Rattle.page_host.proofs.NameLists.{one_order}
 same_fault : (files : Files) (step : Step) (a b : HostFault) → IsFaultAt files step a → IsFaultAt files step b → a ≡ b
 same_fault files ReadWords a b x y = x ∙ sym y
 same_fault files BuiltWords a b x y = x ∙ sym y
-same_fault files FewScripts a b (names, is, x) (others, are, y) = x ∙ ap (λ l. TooManyScripts (told_count l)) (one_order files names others is are) ∙ sym y
+same_fault files FewScripts a b (names, is, x) (others, are, y) = x ∙ ap (λ l. TooManyScripts (counted l)) (one_order files names others is are) ∙ sym y
 same_fault files NoEvents a b x y = x ∙ sym y
 same_fault files PageThere a b x y = x ∙ sym y
 same_fault files BuiltPage a b x y = x ∙ sym y

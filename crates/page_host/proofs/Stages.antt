@@ -8,7 +8,7 @@ use Rattle.door.specs.declared.values.Thing.{Thing}
 use Rattle.door.specs.declared.values.Value.{Value}
 use Rattle.door.specs.declared.values.Value.TheVariants.{Thing as ThingValue, Str, Bool as BoolValue}
 use Rattle.door.specs.declared.members.Member.{Member}
-use Rattle.door.specs.declared.members.Member.TheVariants.{DocumentCreateElement, DocumentCreateTextNode, DocumentSetTitle, ElementSetAttribute, NodeAppendChild, NewEvent}
+use Rattle.door.specs.declared.members.Member.TheVariants.{DocumentCreateElement, DocumentCreateTextNode, DocumentCreateComment, DocumentSetTitle, ElementSetAttribute, NodeAppendChild, NewEvent}
 use Rattle.door.specs.declared.requests.Request.{Request}
 use Rattle.door.specs.declared.requests.Request.TheVariants.{Native}
 use Rattle.door.specs.declared.requests.Answer.{Answer}
@@ -17,10 +17,10 @@ use Rattle.door.specs.declared.marks.Task.{Task}
 use Rattle.door.specs.declared.marks.Task.TheVariants.{Ready, Load}
 use Rattle.door.specs.declared.marks.Mark.{Mark}
 use Rattle.door.specs.declared.marks.Mark.TheVariants.{Turn, Build, Ask}
-use Rattle.door.specs.Forest.{Form, Root, Tagged, Written, Noted, Node, Forest, children_of, form_at, node_at, new_node}
-use Rattle.door.specs.Changes.{created, inserted, is_empty, is_itself, moved, placed, removed, set_text_in, with_children, with_text, replaced_by}
+use Rattle.dom_semantics.specs.Forest.{Form, Root, Tagged, Written, Noted, Node, Forest, children_of, form_at, node_at, new_node}
+use Rattle.dom_semantics.specs.Changes.{created, inserted, is_empty, is_itself, moved, placed, removed, set_text_in, with_children, with_text, replaced_by}
 use Rattle.solo_model.specs.Stage.{Stage, after, asked, built, changed, is_refusal, stage_from, stage_of, start, turned, unless_refused}
-use Rattle.solo_model.specs.Titles.{head_element, title_appended, title_element}
+use Rattle.dom_semantics.specs.Titles.{head_element, title_appended, title_element}
 
 -- there is a node
 abbrev pub HasNodes : Forest → Type 0
@@ -67,6 +67,7 @@ titled_has f i text (Some n) head h = text_has (form_at f n) f i n text h
 changed_has : (i : Actor) (s : Stage) (member : Member) (thing : Thing) (arguments : List Value) → HasNodes s.nodes → HasNodes (changed i s member thing arguments).nodes
 changed_has i s DocumentCreateElement thing (Str tag ∷ []) h = created_has s.nodes i (Tagged tag)
 changed_has i s DocumentCreateTextNode thing (Str text ∷ []) h = created_has s.nodes i (Written text)
+changed_has i s DocumentCreateComment thing (Str text ∷ []) h = created_has s.nodes i (Noted text)
 changed_has i s ElementSetAttribute thing (Str name ∷ (Str value ∷ [])) h = set_has s.nodes thing.number _ h
 changed_has i s NodeAppendChild thing (ThingValue child ∷ []) h = inserted_has s.nodes thing.number child.number None h
 changed_has i s DocumentSetTitle thing (Str text ∷ []) h = titled_has s.nodes i text (title_element s.nodes) (head_element s.nodes) h

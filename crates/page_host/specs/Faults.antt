@@ -10,10 +10,10 @@ use Rattle.page_text.specs.declared.faults.PageKind.TheVariants.{Missing, NotUtf
 abbrev pub status_of : HostFault → ℕ
 status_of Usage = 2
 status_of (PageRefused fault) = 3
+status_of (TooManyScripts count) = 12
 status_of ReadFault = 6
 status_of WriteFault = 8
 status_of NoMemory = 11
-status_of (TooManyScripts count) = 12
 status_of NotYet = 14
 
 -- the name of each kind
@@ -30,10 +30,10 @@ kind_name TooDeep = codes "TooDeep"
 abbrev pub line_of : HostFault → List ℕ
 line_of Usage = codes "usage: pagehost run ADDRESS [--trace] or gen N"
 line_of (PageRefused fault) = codes "page refused at " ++ (decimal fault.at ++ (codes ": " ++ kind_name fault.kind))
+line_of (TooManyScripts count) = codes "too many userscripts: " ++ decimal count
 line_of ReadFault = codes "read fault"
 line_of WriteFault = codes "write fault"
 line_of NoMemory = codes "no memory"
-line_of (TooManyScripts count) = codes "too many userscripts: " ++ decimal count
 line_of NotYet = codes "not built yet"
 
 -- `page.html` is missing

@@ -7,4 +7,4 @@ pub mod Steps
 pub mod Printed
 pub mod Report
 pub mod Run
-pub mod Prepared
+pub mod Loaded

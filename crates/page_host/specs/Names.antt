@@ -29,10 +29,6 @@ pub record IsScriptNames (files : Files) (scripts : List (List ℕ)) : Type 0 wh
   pub order : AreInOrder scripts
   pub exact : (name : List ℕ) → (Contains scripts name ↔ (IsSome (content files name) × IsTrue (is_userscript name)))
 
--- the most userscripts of a folder
-abbrev pub SCRIPT_LIMIT : ℕ
-SCRIPT_LIMIT = 8
-
 -- the number of userscripts that a fault tells
-abbrev pub told_count : List (List ℕ) → ℕ
-told_count scripts = min (length scripts) (2 ^ 32 - 1)
+abbrev pub counted : List (List ℕ) → ℕ
+counted scripts = min (length scripts) (2 ^ 32 - 1)

@@ -29,13 +29,13 @@ abbrev pub who_of : List (List ℕ) → Actor → Option (List ℕ)
 who_of files actor = if nat_eq actor.0 1 then Some (codes "page") else (if nat_le 2 actor.0 then slice_get files (actor.0 - 2) else None)
 
 -- a word, who it is, and the text
-abbrev pub told_line : List ℕ → Option (List ℕ) → List ℕ → List ℕ
-told_line word None text = []
-told_line word (Some who) text = word ++ (32 ∷ (escaped who ++ (32 ∷ (escaped text ++ 10 ∷ []))))
+abbrev pub log_line : List ℕ → Option (List ℕ) → List ℕ → List ℕ
+log_line word None text = []
+log_line word (Some who) text = word ++ (32 ∷ (escaped who ++ (32 ∷ (escaped text ++ 10 ∷ []))))
 
 -- what is logged: the text of a single argument
 abbrev pub logged_line : Option (List ℕ) → List Value → List ℕ
-logged_line who (Str text ∷ []) = told_line (codes "log") who (encode_utf8_all text)
+logged_line who (Str text ∷ []) = log_line (codes "log") who (encode_utf8_all text)
 logged_line who arguments = []
 
 -- the line of a request, where it logs (Greasemonkey manual, GM_log; Console Standard, log)
@@ -59,9 +59,9 @@ fault_text at name = decimal at ++ (32 ∷ encode_utf8_all name)
 
 -- the line of the end of an entry, where nothing caught a throw, a limit stopped it, or its text has a fault
 abbrev pub outcome_line : Option (List ℕ) → Outcome → List ℕ
-outcome_line who (Throw text) = told_line (codes "throw") who (encode_utf8_all text)
-outcome_line who (Stop stop) = told_line (codes "stop") who (stop_name stop)
-outcome_line who (Syntax at name) = told_line (codes "syntax") who (fault_text at name)
+outcome_line who (Throw text) = log_line (codes "throw") who (encode_utf8_all text)
+outcome_line who (Stop stop) = log_line (codes "stop") who (stop_name stop)
+outcome_line who (Syntax at name) = log_line (codes "syntax") who (fault_text at name)
 outcome_line who Done = []
 
 -- the line of a mark, where it has one

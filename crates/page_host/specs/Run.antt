@@ -2,10 +2,11 @@
 use Rattle.std.specs.Prelude.{◌≡◌, ◌≢◌, ◌≤◌, ◌⊎◌, ℕ, true, false, List, [], codes, length, nat_eq, if◌then◌else◌, Option, Some, None, IfSome}
 use Rattle.outside.specs.Contents.{Files, content}
 use Rattle.door.specs.declared.grants.GrantSet.{GrantSet}
+use Rattle.door.specs.declared.limits.TheConstants.{USERSCRIPT_LIMIT}
 use Rattle.door.specs.declared.marks.Mark.{Mark}
 use Rattle.door.specs.declared.values.Actor.{Actor}
 use Rattle.door.specs.declared.zones.Zone.TheVariants.{Page as PageZone, XrayScript}
-use Rattle.door.specs.Forest.{the_host}
+use Rattle.dom_semantics.specs.Forest.{the_host}
 use Rattle.small_forms.specs.Pages.{IsPage}
 use Rattle.small_forms.specs.declared.page.Page.{Page}
 use Rattle.small_forms.specs.declared.userscript.Userscript.{Userscript}
@@ -13,7 +14,7 @@ use Rattle.solo_model.specs.Closed.{ActsAreSolo, ActsAreSoloSoFar, Setups}
 use Rattle.solo_model.specs.Lawful.{Input, IsLawful, IsLawfulSoFar}
 use Rattle.solo_model.specs.Truth.{IsGenuine}
 use Rattle.page_host.specs.Address.{IsPlainAddress}
-use Rattle.page_host.specs.Names.{IsScriptNames, SCRIPT_LIMIT}
+use Rattle.page_host.specs.Names.{IsScriptNames}
 use Rattle.small_eval.specs.Pieces.{pieces_of}
 use Rattle.page_host.specs.Printed.{document_of}
 use Rattle.page_host.specs.Report.{report_of}
@@ -30,7 +31,7 @@ pub record Given (words : List (List ℕ)) (files : Files) : Type 0 where
   pub command : IsRunCommand words address false
   pub plain : IsPlainAddress address
   pub named : IsScriptNames files names
-  pub few : length names ≤ SCRIPT_LIMIT
+  pub few : length names ≤ USERSCRIPT_LIMIT
   pub eventless : content files (codes "events.txt") ≡ None
   pub paged : content files (codes "page.html") ≡ Some bytes
   pub reads : IsPage bytes page
@@ -70,19 +71,19 @@ pub record IsRight (words : List (List ℕ)) (files : Files) (marks : List Mark)
 -- The same for the files that a folder tells, and for some files where it tells none.
 pub record IsRightOver (words : List (List ℕ)) (told : Option Files) (marks : List Mark) (bytes : List ℕ) : Type 0 where
   pub files : Files
-  pub told_so : IfSome told (λ all. all ≡ files)
+  pub known : IfSome told (λ all. all ≡ files)
   pub right : IsRight words files marks bytes
 
--- the turns of what these words and files give, as far as they came
+-- the turns of what these words and files give, as far as they came, and what the actors of this run's address did
 pub record IsBegun (words : List (List ℕ)) (told : Option Files) (marks : List Mark) : Type 0 where
   pub files : Files
-  pub told_so : IfSome told (λ all. all ≡ files)
+  pub known : IfSome told (λ all. all ≡ files)
   pub given : Given words files
   pub lawful : IsLawfulSoFar (input_of given.page (texts_in given.scripts)) marks
+  pub acts : (i : Actor) → i ≢ the_host → ActsAreSoloSoFar (setups_of given.address) i marks
 
--- What holds of the journal of a run that ended early: it is empty, or its turns are those of the run as far as they came; its answers are
--- the true ones, and each actor but the host did what its own machine does by itself, but for one deed at most of the one that was running.
+-- What holds of the journal of a run that ended early: it is empty, or its turns are those of the run as far as they came, and each actor
+-- but the host did what its own machine does by itself, but for one deed at most of the one that was running; its answers are the true ones.
 pub record IsRightSoFar (words : List (List ℕ)) (told : Option Files) (marks : List Mark) : Type 0 where
   pub lawful : (marks ≡ []) ⊎ IsBegun words told marks
   pub genuine : IsGenuine marks
-  pub acts : (address : List ℕ) (i : Actor) → i ≢ the_host → ActsAreSoloSoFar (setups_of address) i marks

@@ -1,12 +1,13 @@
 -- What a run wants of words and files, step by step, and what it refuses; this project's own.
 use Rattle.std.specs.Prelude.{◌≡◌, ◌≤◌, ◌⊎◌, ℕ, false, List, [], ◌∷◌, codes, length, Some, None}
 use Rattle.outside.specs.Contents.{Files, content}
+use Rattle.door.specs.declared.limits.TheConstants.{USERSCRIPT_LIMIT}
 use Rattle.small_forms.specs.Pages.{IsPage}
 use Rattle.small_forms.specs.declared.page.Page.{Page}
 use Rattle.small_forms.specs.declared.userscript.Userscript.{Userscript}
 use Rattle.page_host.specs.Address.{IsPlainAddress}
 use Rattle.page_host.specs.Faults.{page_missing}
-use Rattle.page_host.specs.Names.{IsScriptNames, SCRIPT_LIMIT, told_count}
+use Rattle.page_host.specs.Names.{IsScriptNames, counted}
 use Rattle.page_host.specs.Scripts.{AreRead}
 use Rattle.page_host.specs.Words.{AreRead as AreReadWords, IsRunCommand}
 use Rattle.page_host.specs.declared.faults.HostFault.{HostFault}
@@ -37,7 +38,7 @@ steps = ReadWords ∷ (BuiltWords ∷ file_steps)
 abbrev pub Wants : List (List ℕ) → Files → Step → Type 0
 Wants words files ReadWords = AreReadWords words
 Wants words files BuiltWords = (address : List ℕ) × IsRunCommand words address false × IsPlainAddress address
-Wants words files FewScripts = (names : List (List ℕ)) × IsScriptNames files names × (length names ≤ SCRIPT_LIMIT)
+Wants words files FewScripts = (names : List (List ℕ)) × IsScriptNames files names × (length names ≤ USERSCRIPT_LIMIT)
 Wants words files NoEvents = content files (codes "events.txt") ≡ None
 Wants words files PageThere = (bytes : List ℕ) × (content files (codes "page.html") ≡ Some bytes)
 Wants words files BuiltPage = (bytes : List ℕ) × (page : Page) × (content files (codes "page.html") ≡ Some bytes) × IsPage bytes page
@@ -47,7 +48,7 @@ Wants words files BuiltScripts = (names : List (List ℕ)) × (scripts : List Us
 abbrev pub IsFaultAt : Files → Step → HostFault → Type 0
 IsFaultAt files ReadWords fault = fault ≡ Usage
 IsFaultAt files BuiltWords fault = fault ≡ NotYet
-IsFaultAt files FewScripts fault = (names : List (List ℕ)) × IsScriptNames files names × (fault ≡ TooManyScripts (told_count names))
+IsFaultAt files FewScripts fault = (names : List (List ℕ)) × IsScriptNames files names × (fault ≡ TooManyScripts (counted names))
 IsFaultAt files NoEvents fault = fault ≡ NotYet
 IsFaultAt files PageThere fault = fault ≡ page_missing
 IsFaultAt files BuiltPage fault = fault ≡ NotYet

@@ -5,8 +5,8 @@ ghost use Rattle.std.specs.Prelude.{◌↔◌, IsTrue};
 
 use small_forms::{Class, after, are_runs, before};
 
-/// The most bytes of an address.
-const ADDRESS_LIMIT: usize = 253;
+/// The most bytes of an address of this form. The limit of all addresses is `door`'s.
+pub const PLAIN_ADDRESS_LIMIT: usize = 253;
 
 /// Whether an address is of the form that is read yet.
 pub fn is_plain_address(address: &str) -> bool
@@ -19,5 +19,5 @@ pub fn is_plain_address(address: &str) -> bool
     let Some(host) = before(rest, b"/") else {
         return false;
     };
-    bytes.len() <= ADDRESS_LIMIT && are_runs(host, Class::Lower, Class::Dot)
+    bytes.len() <= PLAIN_ADDRESS_LIMIT && are_runs(host, Class::Lower, Class::Dot)
 }

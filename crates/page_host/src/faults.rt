@@ -15,14 +15,14 @@ pub enum HostFault {
     Usage,
     /// `page.html` is missing or isn't a page.
     PageRefused(PageFault),
+    /// There are more userscripts than a run may have: their number, or 2^32 - 1 where it is greater.
+    TooManyScripts(u32),
     /// A call on the folder failed.
     ReadFault,
     /// A write of the report failed.
     WriteFault,
     /// No memory was found.
     NoMemory,
-    /// There are more userscripts than a run may have: so many, or 2^32 - 1 where there are more.
-    TooManyScripts(u32),
     /// The words or the files are of a form that isn't built yet.
     NotYet,
 }
@@ -45,10 +45,10 @@ impl HostFault {
         match self {
             HostFault::Usage => 2,
             HostFault::PageRefused(_) => 3,
+            HostFault::TooManyScripts(_) => 12,
             HostFault::ReadFault => 6,
             HostFault::WriteFault => 8,
             HostFault::NoMemory => 11,
-            HostFault::TooManyScripts(_) => 12,
             HostFault::NotYet => 14,
         }
     }
@@ -90,10 +90,10 @@ pub fn fault_line(alloc: Global, fault: &HostFault) -> Mem<String>
     let line = match *fault {
         HostFault::Usage => "usage: pagehost run ADDRESS [--trace] or gen N",
         HostFault::PageRefused(refused) => return Ok(page_line(alloc, refused)?),
+        HostFault::TooManyScripts(count) => return Ok(scripts_line(alloc, count)?),
         HostFault::ReadFault => "read fault",
         HostFault::WriteFault => "write fault",
         HostFault::NoMemory => "no memory",
-        HostFault::TooManyScripts(count) => return Ok(scripts_line(alloc, count)?),
         HostFault::NotYet => "not built yet",
     };
     Ok(String::from_str(alloc, line)?)

@@ -1,7 +1,9 @@
-//! The whole run, from the words of the command line to the bytes of the report.
+//! The whole run in five steps: it reads the words, loads the files, runs the page and its userscripts, builds the
+//! report, and writes it.
 
+ghost use Rattle.door.specs.declared.limits.TheConstants.{MARK_LIMIT};
 ghost use Rattle.outside.specs.Causes.{Rose};
-ghost use Rattle.outside.specs.Contents.{Appends, AppendsPrefix};
+ghost use Rattle.outside.specs.Contents.{Appends, AppendsProperPrefix};
 ghost use Rattle.page_host.specs.Faults.{IsOneOf, IsRefusalStatus, page_missing, status_of};
 ghost use Rattle.page_host.specs.Run.{IsRightOver, IsRightSoFar};
 ghost use Rattle.page_host.specs.Steps.{AreUnbuilt, Fits, IsRefused};
@@ -11,10 +13,9 @@ ghost use Rattle.std.specs.Prelude.{◌≡◌, ◌≢◌, ◌⊎◌, ◌≤◌, 
 ghost use Rattle.std.specs.String.{string_bytes};
 
 use crate::faults::HostFault;
-use crate::prepare::{Made, prepare};
-use door::Journal;
+use crate::run::{RunOutput, run};
+use door::{Journal, MARK_LIMIT};
 use outside::{Folder, Keeper, Lost, Sink, write_all};
-use small_eval::MARK_LIMIT;
 use std::alloc::Global;
 
 /// How a run ended: its exit status, the fault where there is one, and the journal, which is whole
@@ -34,9 +35,10 @@ pub struct Ended {
 /// The status is 0, or that of the fault: 2, 3, 12 and 14 are the first refusal of words and files in the
 /// order of the steps, where the folder tells its files; a refusal of the words alone comes whatever it
 /// tells. 6 comes only where a call on the folder failed, 8 only where a write failed, and 11 for want of
-/// memory. At 0 the sink has the report of the journal, at 8 a prefix of it, at 11 nothing or a prefix, and
-/// else it is as before. The folder's files and the keeper are as before. At each status but 0 the journal
-/// is that of a run that may have been cut off: whole at 8, whole or empty at 11, and else empty.
+/// memory, where no call on the folder and no write failed. At 0 the sink has the report of the journal, at 8
+/// a proper prefix of it, at 11 nothing or a proper prefix, and else it is as before. The folder's files and
+/// the keeper are as before. At each status but 0 the journal is that of a run that may have been cut off:
+/// whole at 8, whole or empty at 11, and else empty.
 pub fn host_run<F: Folder, K: Keeper, S: Sink>(
     alloc: Global,
     words: &[String],
@@ -46,6 +48,7 @@ pub fn host_run<F: Folder, K: Keeper, S: Sink>(
 ) -> Ended
     ensures tied { MatchOption result.fault (result.status ≡ 0) (λ fault. result.status ≡ status_of fault) }
     ensures empty { result.status ≢ 0 → result.status ≢ 8 → result.status ≢ 11 → result.journal.marks ≡ [] }
+    ensures limit { result.journal.limit ≡ MARK_LIMIT }
     ensures page { result.status ≡ 3 → result.fault ≡ Some page_missing }
 
     // What is refused, and why.
@@ -59,37 +62,39 @@ pub fn host_run<F: Folder, K: Keeper, S: Sink>(
 
     // What is written.
     ensures right { result.status ≡ 0 → (bytes : List ℕ) × IsRightOver (map string_bytes words.now) (F.files folder.old) result.journal.marks bytes × Appends (S.written out.old) (S.written out.new) bytes }
-    ensures cut { result.status ≡ 8 → ((bytes : List ℕ) × IsRightOver (map string_bytes words.now) (F.files folder.old) result.journal.marks bytes × AppendsPrefix (S.written out.old) (S.written out.new) bytes) }
-    ensures short { result.status ≡ 11 → ((out.new ≡ out.old) × (result.journal.marks ≡ [])) ⊎ ((bytes : List ℕ) × IsRightOver (map string_bytes words.now) (F.files folder.old) result.journal.marks bytes × AppendsPrefix (S.written out.old) (S.written out.new) bytes) }
+    ensures cut { result.status ≡ 8 → ((bytes : List ℕ) × IsRightOver (map string_bytes words.now) (F.files folder.old) result.journal.marks bytes × AppendsProperPrefix (S.written out.old) (S.written out.new) bytes) }
+    ensures short { result.status ≡ 11 → ((out.new ≡ out.old) × (result.journal.marks ≡ [])) ⊎ ((bytes : List ℕ) × IsRightOver (map string_bytes words.now) (F.files folder.old) result.journal.marks bytes × AppendsProperPrefix (S.written out.old) (S.written out.new) bytes) }
     ensures unwritten { result.status ≢ 0 → result.status ≢ 8 → result.status ≢ 11 → out.new ≡ out.old }
     ensures files { F.files folder.new ≡ F.files folder.old }
     ensures kept { keeper.new ≡ keeper.old }
 
     // What holds of a run that ended early, and of the counts.
     ensures sofar { result.status ≢ 0 → IsRightSoFar (map string_bytes words.now) (F.files folder.old) result.journal.marks }
+    ensures memory { result.status ≡ 11 → (F.faults folder.new ≡ F.faults folder.old) × (S.faults out.new ≡ S.faults out.old) }
     ensures counts { (F.faults folder.old ≤ F.faults folder.new) × (S.faults out.old ≤ S.faults out.new) }
 {
-    match prepare(alloc, words, folder) {
+    match run(alloc, words, folder) {
         Err(fault) => Ended {
             status: fault.status(),
             fault: Some(fault),
             journal: Journal::new(alloc, MARK_LIMIT),
         },
-        Ok(made) => deliver(made, out),
+        Ok(output) => write_report(output, out),
     }
 }
 
 /// Writes the report.
-fn deliver<S: Sink>(made: Made, out: &mut S) -> Ended
+fn write_report<S: Sink>(output: RunOutput, out: &mut S) -> Ended
     ensures tied { MatchOption result.fault (result.status ≡ 0) (λ fault. result.status ≡ status_of fault) }
     ensures answers { IsOneOf result.status (0 ∷ (8 ∷ (11 ∷ []))) }
     ensures write { result.status ≡ 8 → Rose (S.faults out.old) (S.faults out.new) }
     ensures later { S.faults out.old ≤ S.faults out.new }
-    ensures whole { result.status ≡ 0 → Appends (S.written out.old) (S.written out.new) made.report.items }
-    ensures cut { result.status ≢ 0 → AppendsPrefix (S.written out.old) (S.written out.new) made.report.items }
-    ensures journal { result.journal ≡ made.journal }
+    ensures whole { result.status ≡ 0 → Appends (S.written out.old) (S.written out.new) output.report.items }
+    ensures cut { result.status ≢ 0 → AppendsProperPrefix (S.written out.old) (S.written out.new) output.report.items }
+    ensures memory { result.status ≡ 11 → S.faults out.new ≡ S.faults out.old }
+    ensures journal { result.journal ≡ output.journal }
 {
-    let Made { journal, report } = made;
+    let RunOutput { journal, report } = output;
     let fault = match write_all(out, report.as_slice()) {
         Ok(()) => None,
         Err(Lost::Failed) => Some(HostFault::WriteFault),

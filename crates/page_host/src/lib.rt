@@ -3,12 +3,12 @@
 
 mod address;
 mod faults;
+mod folder;
 mod host;
 mod names;
 mod play;
-mod prepare;
-mod reads;
 mod report_text;
+mod run;
 mod scripts;
 mod words;
 

@@ -1,12 +1,9 @@
 //! The names of a folder's files: which are userscripts, in which order, and how many there may be.
 
-ghost use Rattle.page_host.specs.Names.{AreScriptsOf, is_events, is_userscript, told_count};
+ghost use Rattle.page_host.specs.Names.{AreScriptsOf, is_events, is_userscript, counted};
 ghost use Rattle.std.specs.Prelude.{◌≡◌, map};
 ghost use Rattle.std.specs.List.{list_any};
 ghost use Rattle.std.specs.String.{string_bytes};
-
-/// The most userscripts of a folder.
-pub const SCRIPT_LIMIT: usize = 8;
 
 /// Whether the list of user events is among the names.
 pub fn has_events(names: &[String]) -> bool
@@ -37,8 +34,8 @@ pub fn script_names(mut names: Vec<String>) -> Vec<String>
 }
 
 /// The number of names that a fault tells.
-pub fn told_count(scripts: &[String]) -> u32
-    ensures { result ≡ told_count (map string_bytes scripts.now) }
+pub fn counted(scripts: &[String]) -> u32
+    ensures { result ≡ counted (map string_bytes scripts.now) }
 {
     match u32::try_from(scripts.len()) {
         Ok(count) => count,

@@ -1,6 +1,6 @@
-//! How what was read is played.
+//! Runs the loaded page and userscripts to the end, so that the rest of the crate sees the journal and the document alone.
 
-ghost use Rattle.page_host.specs.Names.{SCRIPT_LIMIT};
+ghost use Rattle.door.specs.declared.limits.TheConstants.{MARK_LIMIT, USERSCRIPT_LIMIT};
 ghost use Rattle.page_host.specs.Run.{AllActsAreSolo, input_of};
 ghost use Rattle.page_host.specs.Scripts.{AreScripts, texts_in};
 ghost use Rattle.small_forms.specs.Pages.{IsPage};
@@ -47,11 +47,12 @@ fn texts_in(alloc: Global, scripts: &[Userscript]) -> Mem<Vec<Text>>
 /// Plays the run of a page and its userscripts.
 pub fn play(alloc: Global, page: &Page, scripts: &[Userscript]) -> Mem<Played>
     requires page { (bytes : List ℕ) × IsPage bytes page.now }
-    requires few { length scripts.now ≤ SCRIPT_LIMIT }
+    requires few { length scripts.now ≤ USERSCRIPT_LIMIT }
     requires scripts { AreScripts scripts.now }
     ensures lawful { IfOk result (λ played. IsLawful (input_of page.now (texts_in scripts.now)) played.journal.marks) }
     ensures genuine { IfOk result (λ played. IsGenuine played.journal.marks) }
     ensures acts { IfOk result (λ played. (address : List ℕ) → AllActsAreSolo address played.journal.marks) }
+    ensures limit { IfOk result (λ played. played.journal.limit ≡ MARK_LIMIT) }
     ensures document { IfOk result (λ played. played.tree ≡ (stage_of played.journal.marks).nodes) }
 {
     small_solos_are_solos();

@@ -1,6 +1,6 @@
 //! The bytes of the report.
 
-ghost use Rattle.page_host.specs.Report.{escaped, escaped_byte, fault_text, logged_line, mark_line, outcome_line, report_head, report_of, report_tail, request_line, script_line, stop_name, told_line, turns_in, who_of};
+ghost use Rattle.page_host.specs.Report.{escaped, escaped_byte, fault_text, logged_line, mark_line, outcome_line, report_head, report_of, report_tail, request_line, script_line, stop_name, log_line, turns_in, who_of};
 ghost use Rattle.std.specs.Prelude.{◌≡◌, ◌∷◌, ◌++◌, codes, IfOk, OnOk, map};
 ghost use Rattle.std.specs.Fmt.{decimal};
 ghost use Rattle.std.specs.List.{flat_map};
@@ -100,8 +100,8 @@ fn who_of(files: &[String], actor: Actor) -> Option<&str>
 }
 
 /// A word, who it is, and the text.
-fn push_told(out: &mut Vec<u8>, word: &str, who: Option<&str>, text: &str) -> Mem<()>
-    ensures { OnOk result (out.new.items ≡ out.old.items ++ told_line word.now (option_copied who.entry) text.now) }
+fn push_log_line(out: &mut Vec<u8>, word: &str, who: Option<&str>, text: &str) -> Mem<()>
+    ensures { OnOk result (out.new.items ≡ out.old.items ++ log_line word.now (option_copied who.entry) text.now) }
 {
     let Some(who) = who else {
         return Ok(());
@@ -118,7 +118,7 @@ fn push_logged(out: &mut Vec<u8>, who: Option<&str>, arguments: &Values) -> Mem<
     ensures { OnOk result (out.new.items ≡ out.old.items ++ logged_line (option_copied who.entry) arguments.now) }
 {
     match arguments.as_slice() {
-        [Value::Str(text)] => push_told(out, "log", who, text.as_str()),
+        [Value::Str(text)] => push_log_line(out, "log", who, text.as_str()),
         _ => Ok(()),
     }
 }
@@ -152,18 +152,18 @@ fn fault_text(alloc: Global, at: u32, name: &str) -> Result<String, AllocError>
 }
 
 fn push_syntax(alloc: Global, out: &mut Vec<u8>, who: Option<&str>, at: u32, name: &Text) -> Mem<()>
-    ensures { OnOk result (out.new.items ≡ out.old.items ++ told_line (codes "syntax") (option_copied who.entry) (fault_text at name.now)) }
+    ensures { OnOk result (out.new.items ≡ out.old.items ++ log_line (codes "syntax") (option_copied who.entry) (fault_text at name.now)) }
 {
     let text = fault_text(alloc, at, name.as_str())?;
-    push_told(out, "syntax", who, text.as_str())
+    push_log_line(out, "syntax", who, text.as_str())
 }
 
 fn push_outcome(alloc: Global, out: &mut Vec<u8>, who: Option<&str>, outcome: &Outcome) -> Mem<()>
     ensures { OnOk result (out.new.items ≡ out.old.items ++ outcome_line (option_copied who.entry) outcome.now) }
 {
     match outcome {
-        Outcome::Throw(text) => push_told(out, "throw", who, text.as_str()),
-        Outcome::Stop(stop) => push_told(out, "stop", who, stop_name(*stop)),
+        Outcome::Throw(text) => push_log_line(out, "throw", who, text.as_str()),
+        Outcome::Stop(stop) => push_log_line(out, "stop", who, stop_name(*stop)),
         Outcome::Syntax(at, name) => push_syntax(alloc, out, who, *at, name),
         Outcome::Done => Ok(()),
     }

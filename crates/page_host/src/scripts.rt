@@ -11,7 +11,7 @@ ghost use Rattle.std.specs.Str.{bytes_eq};
 ghost use Rattle.std.specs.String.{string_bytes};
 
 use crate::faults::HostFault;
-use crate::reads::read_file;
+use crate::folder::read_file;
 use base_text::{Mem, Text};
 use outside::Folder;
 use small_forms::{Userscript, userscript_in, userscripts_are_read_one_way};
@@ -29,6 +29,8 @@ fn read_script<F: Folder>(
     ensures same { F.files folder.new ≡ F.files folder.old }
     ensures later { F.faults folder.old ≤ F.faults folder.new }
     ensures failed { IsErrOf result HostFault.ReadFault → Rose (F.faults folder.old) (F.faults folder.new) }
+    ensures steady { OnOk result (F.faults folder.new ≡ F.faults folder.old) }
+    ensures memory { IsErrOf result HostFault.NoMemory → F.faults folder.new ≡ F.faults folder.old }
     ensures other { IfErr result (λ e. (e ≡ HostFault.ReadFault) ⊎ (e ≡ HostFault.NoMemory) ⊎ (e ≡ HostFault.NotYet)) }
 {
     let Some(bytes) = read_file(folder, file)? else {
@@ -73,6 +75,8 @@ pub fn scripts_in<F: Folder>(
     ensures same { F.files folder.new ≡ F.files folder.old }
     ensures later { F.faults folder.old ≤ F.faults folder.new }
     ensures failed { IsErrOf result HostFault.ReadFault → Rose (F.faults folder.old) (F.faults folder.new) }
+    ensures steady { OnOk result (F.faults folder.new ≡ F.faults folder.old) }
+    ensures memory { IsErrOf result HostFault.NoMemory → F.faults folder.new ≡ F.faults folder.old }
     ensures other { IfErr result (λ e. (e ≡ HostFault.ReadFault) ⊎ (e ≡ HostFault.NoMemory) ⊎ (e ≡ HostFault.NotYet)) }
 {
     userscripts_are_read_one_way();

@@ -7,7 +7,7 @@ use Rattle.std.specs.BTreeSet.{BTreeSet, contains}
 use Rattle.std.specs.BTreeMap.{is_at}
 use Rattle.base_text.specs.Scalars.{text_cmp, text_ties}
 use Rattle.page_text.specs.declared.tags.Attribute.{Attribute}
-use Rattle.page_text.specs.Tags.{AreNamed}
+use Rattle.page_text.specs.TagsModel.{AreNamed}
 
 alone : (b : Bool) → cond b true false ≡ (b || false)
 alone true = refl

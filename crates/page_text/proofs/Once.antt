@@ -11,10 +11,10 @@ use Rattle.page_text.specs.declared.reader.Over.TheVariants.{No, Ended, Refused}
 use Rattle.page_text.specs.declared.tags.Attribute.{Attribute}
 use Rattle.page_text.specs.Bytes.{Bytes}
 use Rattle.page_text.specs.Outcomes.{Outcome}
-use Rattle.page_text.specs.Tags as t
-use Rattle.page_text.specs.Tags.{Attributes, StartTag, Tag, tagged}
-use Rattle.page_text.specs.Steps as s
-use Rattle.page_text.specs.Steps.{State, Stepped, Went, Cut, Done, Front, ElementStep, StepsAt, Steps}
+use Rattle.page_text.specs.TagsModel as t
+use Rattle.page_text.specs.TagsModel.{Attributes, StartTag, Tag, tagged}
+use Rattle.page_text.specs.StepsModel as s
+use Rattle.page_text.specs.StepsModel.{State, Stepped, Next, Script, End, Front, ElementStep, StepsAt, Steps}
 use Rattle.page_text.specs.Pieces as p
 use Rattle.page_text.specs.Pieces.{PieceEnd, PieceFrom}
 use Rattle.page_text.specs.Page.{Progress, IsNext, IsStuck, Pieces, Faulty, Goes, Stops, Refuses, no_more, next, refused, here, later}
@@ -97,73 +97,73 @@ element_once st a b (s.element x h m) (s.element y g n) =
     ap (s.tag_step st) same
 
 pub steps_once : (st : State) (f : Front) (a b : Outcome Stepped) → StepsAt st f a → StepsAt st f b → a ≡ b
-steps_once st f a b s.at_end s.at_end = refl
-steps_once st f a b s.at_text s.at_text = refl
-steps_once st f a b s.at_comment s.at_comment = refl
-steps_once st f a b s.at_doctype s.at_doctype = refl
-steps_once st f a b s.at_end_tag s.at_end_tag = refl
-steps_once st f a b s.at_bad s.at_bad = refl
-steps_once st f a b (s.at_second h) (s.at_second g) = refl
-steps_once st f a b (s.at_second h) (s.at_element out g m) = absurd (both_ways _ g h)
-steps_once st f a b (s.at_element out h m) (s.at_second g) = absurd (both_ways _ h g)
-steps_once st f a b (s.at_element out h m) (s.at_element out' g n) = element_once st _ _ m n
+steps_once st f a b s.over_end s.over_end = refl
+steps_once st f a b s.over_text s.over_text = refl
+steps_once st f a b s.over_comment s.over_comment = refl
+steps_once st f a b s.over_doctype s.over_doctype = refl
+steps_once st f a b s.over_end_tag s.over_end_tag = refl
+steps_once st f a b s.over_bad s.over_bad = refl
+steps_once st f a b (s.over_second h) (s.over_second g) = refl
+steps_once st f a b (s.over_second h) (s.over_element out g m) = absurd (both_ways _ g h)
+steps_once st f a b (s.over_element out h m) (s.over_second g) = absurd (both_ways _ h g)
+steps_once st f a b (s.over_element out h m) (s.over_element out' g n) = element_once st _ _ m n
 
 -- ---- pieces
 
 cut_script : Outcome Stepped → List ℕ
-cut_script (Ok (Went t)) = []
-cut_script (Ok (Cut x t)) = x
-cut_script (Ok (Done t)) = []
+cut_script (Ok (Next t)) = []
+cut_script (Ok (Script x t)) = x
+cut_script (Ok (End t)) = []
 cut_script (Err e) = []
 
 state_in : State → Outcome Stepped → State
-state_in d (Ok (Went t)) = t
-state_in d (Ok (Cut x t)) = t
-state_in d (Ok (Done t)) = t
+state_in d (Ok (Next t)) = t
+state_in d (Ok (Script x t)) = t
+state_in d (Ok (End t)) = t
 state_in d (Err e) = d
 
-same_state_went : (t u : State) → ◌≡◌ {A = Outcome Stepped} (Ok (Went t)) (Ok (Went u)) → t ≡ u
+same_state_went : (t u : State) → ◌≡◌ {A = Outcome Stepped} (Ok (Next t)) (Ok (Next u)) → t ≡ u
 same_state_went t u h = cc
 
 module _ (st : State) where
-  went_once : (t : State) (out : Outcome PieceEnd) → Steps st (Ok (Went t)) → ((b : Outcome PieceEnd) → PieceFrom t b → out ≡ b) → (b : Outcome PieceEnd) → PieceFrom st b → out ≡ b
-  went_once t out h n b (p.went st' u out' g m) =
+  went_once : (t : State) (out : Outcome PieceEnd) → Steps st (Ok (Next t)) → ((b : Outcome PieceEnd) → PieceFrom t b → out ≡ b) → (b : Outcome PieceEnd) → PieceFrom st b → out ≡ b
+  went_once t out h n b (p.past_step st' u out' g m) =
       let e = same_state_went t u (steps_once st _ _ _ h g) in
       n b (rw e m)
-  went_once t out h n b (p.cut st' u x g) = let e = steps_once st _ _ _ h g in absurd (cc)
-  went_once t out h n b (p.done st' u g) = let e = steps_once st _ _ _ h g in absurd (cc)
-  went_once t out h n b (p.stuck st' e' g) = let e = steps_once st _ _ _ h g in absurd (cc)
+  went_once t out h n b (p.at_script st' u x g) = let e = steps_once st _ _ _ h g in absurd (cc)
+  went_once t out h n b (p.at_end st' u g) = let e = steps_once st _ _ _ h g in absurd (cc)
+  went_once t out h n b (p.at_fault st' e' g) = let e = steps_once st _ _ _ h g in absurd (cc)
 
-  cut_once : (t : State) (x : List ℕ) → Steps st (Ok (Cut x t)) → (b : Outcome PieceEnd) → PieceFrom st b → Ok (Some x, t) ≡ b
-  cut_once t x h b (p.went st' u out' g m) = let e = steps_once st _ _ _ h g in absurd (cc)
-  cut_once t x h b (p.cut st' u y g) =
+  cut_once : (t : State) (x : List ℕ) → Steps st (Ok (Script x t)) → (b : Outcome PieceEnd) → PieceFrom st b → Ok (Some x, t) ≡ b
+  cut_once t x h b (p.past_step st' u out' g m) = let e = steps_once st _ _ _ h g in absurd (cc)
+  cut_once t x h b (p.at_script st' u y g) =
       let e = steps_once st _ _ _ h g in
       let same : x ≡ y = cc in
       let states : t ≡ u = cc in
       rw (same, states) refl
-  cut_once t x h b (p.done st' u g) = let e = steps_once st _ _ _ h g in absurd (cc)
-  cut_once t x h b (p.stuck st' e' g) = let e = steps_once st _ _ _ h g in absurd (cc)
+  cut_once t x h b (p.at_end st' u g) = let e = steps_once st _ _ _ h g in absurd (cc)
+  cut_once t x h b (p.at_fault st' e' g) = let e = steps_once st _ _ _ h g in absurd (cc)
 
-  done_once : (t : State) → Steps st (Ok (Done t)) → (b : Outcome PieceEnd) → PieceFrom st b → Ok (None, t) ≡ b
-  done_once t h b (p.went st' u out' g m) = let e = steps_once st _ _ _ h g in absurd (cc)
-  done_once t h b (p.cut st' u y g) = let e = steps_once st _ _ _ h g in absurd (cc)
-  done_once t h b (p.done st' u g) =
+  done_once : (t : State) → Steps st (Ok (End t)) → (b : Outcome PieceEnd) → PieceFrom st b → Ok (None, t) ≡ b
+  done_once t h b (p.past_step st' u out' g m) = let e = steps_once st _ _ _ h g in absurd (cc)
+  done_once t h b (p.at_script st' u y g) = let e = steps_once st _ _ _ h g in absurd (cc)
+  done_once t h b (p.at_end st' u g) =
       let e = steps_once st _ _ _ h g in
       let states : t ≡ u = cc in
       rw states refl
-  done_once t h b (p.stuck st' e' g) = let e = steps_once st _ _ _ h g in absurd (cc)
+  done_once t h b (p.at_fault st' e' g) = let e = steps_once st _ _ _ h g in absurd (cc)
 
   stuck_piece_once : (e : PageKind × Bytes) → Steps st (Err e) → (b : Outcome PieceEnd) → PieceFrom st b → Err e ≡ b
-  stuck_piece_once e h b (p.went st' u out' g m) = let f = steps_once st _ _ _ h g in absurd (cc)
-  stuck_piece_once e h b (p.cut st' u y g) = let f = steps_once st _ _ _ h g in absurd (cc)
-  stuck_piece_once e h b (p.done st' u g) = let f = steps_once st _ _ _ h g in absurd (cc)
-  stuck_piece_once e h b (p.stuck st' e' g) = let f = steps_once st _ _ _ h g in cc
+  stuck_piece_once e h b (p.past_step st' u out' g m) = let f = steps_once st _ _ _ h g in absurd (cc)
+  stuck_piece_once e h b (p.at_script st' u y g) = let f = steps_once st _ _ _ h g in absurd (cc)
+  stuck_piece_once e h b (p.at_end st' u g) = let f = steps_once st _ _ _ h g in absurd (cc)
+  stuck_piece_once e h b (p.at_fault st' e' g) = let f = steps_once st _ _ _ h g in cc
 
 pub piece_once : (st : State) (a : Outcome PieceEnd) → PieceFrom st a → (b : Outcome PieceEnd) → PieceFrom st b → a ≡ b
-piece_once st a (p.went st' t out h m) = went_once st t a h (piece_once t a m)
-piece_once st a (p.cut st' t x h) = cut_once st t x h
-piece_once st a (p.done st' t h) = done_once st t h
-piece_once st a (p.stuck st' e h) = stuck_piece_once st e h
+piece_once st a (p.past_step st' t out h m) = went_once st t a h (piece_once t a m)
+piece_once st a (p.at_script st' t x h) = cut_once st t x h
+piece_once st a (p.at_end st' t h) = done_once st t h
+piece_once st a (p.at_fault st' e h) = stuck_piece_once st e h
 
 -- ---- a reader's progress
 

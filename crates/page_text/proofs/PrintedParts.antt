@@ -5,7 +5,8 @@ use Rattle.std.proofs.lemmas.List.{take_all, take_more}
 use Rattle.std.proofs.lemmas.List.Concat.{flat_map-append}
 use Rattle.std.proofs.lemmas.Str.{encodes-append}
 use lib.Utf8.{encodes}
-use Rattle.door.specs.Forest.{DEPTH_LIMIT, Form, Root, Tagged, Written, Noted, Forest, attributes_of, children_of, form_at}
+use Rattle.dom_semantics.specs.Forest.{DEPTH_LIMIT, Form, Root, Tagged, Written, Noted, Forest, attributes_of, children_of, form_at}
+use Rattle.dom_tree.specs.declared.limits.TheConstants.{TREE_LEVELS}
 use Rattle.page_text.specs.Nodes.{is_void}
 use Rattle.page_text.specs.Printed.{around, end_tag, printed_levels, stands_raw, start_tag}
 use Rattle.page_text.specs.Around.{back_of, front_of, has_inside}
@@ -42,7 +43,7 @@ pub parts_encoded : (front inside back : List ℕ) → encodes (front ++ (inside
 parts_encoded front inside back = encodes-append front (inside ++ back) ∙ ap (λ x. encodes front ++ x) (encodes-append inside back)
 
 -- as many levels as the limit leaves room for
-pub levels_are : 257 ≡ suc DEPTH_LIMIT
+pub levels_are : TREE_LEVELS ≡ suc DEPTH_LIMIT
 unfolding DEPTH_LIMIT
 levels_are = refl
 

@@ -7,17 +7,18 @@ use Rattle.std.proofs.lemmas.Bool.{and_parts, eqb-true, and_right, false≢true,
 use Rattle.std.proofs.lemmas.Bool.Decides.{nat_tests}
 use Rattle.std.specs.Str.{IsUtf8, IsCharBoundary}
 use Rattle.std.proofs.lemmas.Str.{IsUtf8-drop, IsCharBoundary-after_ascii}
-use Rattle.page_text.specs.Bytes.{Bytes, sees, begins, is_space, is_letter, opens}
-use Rattle.page_text.specs.Scans.{before, from, stops, is_markup}
+use Rattle.page_text.specs.Bytes.{Bytes, sees, begins, is_letter, opens}
+use Rattle.dom_semantics.specs.Whitespace.{is_white_space}
+use Rattle.page_text.specs.ScansModel.{before, from, stops, is_markup}
 use Rattle.page_text.specs.declared.scan.Stop.TheVariants.{AtByte, AfterSpace, AtMarkup}
-use Rattle.page_text.specs.Values.{Leaves, ReadsEntity, spells, with_line_ends, entity_at, unescaped_past}
+use Rattle.page_text.specs.ValuesModel.{Leaves, ReadsEntity, spells, with_line_ends, entity_at, unescaped_past}
 use Rattle.page_text.specs.declared.faults.PageKind.{PageKind}
 use Rattle.page_text.specs.declared.faults.Failed.{Failed}
-use Rattle.page_text.specs.declared.faults.Failed.TheVariants.{Memory, Stuck}
+use Rattle.page_text.specs.declared.faults.Failed.TheVariants.{Memory, Fault}
 use Rattle.page_text.specs.Outcomes.{Answers, Fails, Gives, IsLess, Outcome}
 use Rattle.std.specs.Prelude.{codes}
-use Rattle.page_text.specs.Tags.{is_empty}
-use Rattle.page_text.specs.Steps.{nothing, comment, doctype, start_tag, end_tag, bad, run, front_of}
+use Rattle.page_text.specs.TagsModel.{is_empty}
+use Rattle.page_text.specs.StepsModel.{nothing, comment, doctype, start_tag, end_tag, bad, run, front_of}
 use Rattle.page_text.proofs.Scanning.{parts_join, from_stops, from_on}
 
 same_byte : (b : ℕ) → (b == b) ≡ true
@@ -161,7 +162,7 @@ boundary_one b [] u small h = absurd (false≢true h)
 boundary_one b (c ∷ cs) u small h = IsCharBoundary-after_ascii (c ∷ cs) 0 u (omega arith) (rw (eqb-true c b h) small)
 
 -- where white space stands first, less is behind it
-pub space_taken : (text : Bytes) → begins is_space text ≡ true → length (from (stops AfterSpace) text) < length text
+pub space_taken : (text : Bytes) → begins is_white_space text ≡ true → length (from (stops AfterSpace) text) < length text
 space_taken [] h = absurd (false≢true h)
 space_taken (b ∷ bs) h = rw (from_on (stops AfterSpace) b bs (rw h refl)) (omega (arith, ap length (parts_join (stops AfterSpace) bs), length-append (before (stops AfterSpace) bs) (from (stops AfterSpace) bs)))
 
@@ -172,18 +173,18 @@ eaten b (c ∷ cs) rest u small h e = (h, e, (rw e (omega arith), rw e (IsUtf8-d
 -- a fault that is handed on
 pub handed_on : {X Y Z : Type 0} (view : X → Y) (is : Outcome Y → Type 0) (read : Outcome Z) (e : Failed) → Fails e read → ((x : PageKind × Bytes) → read ≡ Err x → is (Err x)) → Answers view is (Err e)
 handed_on view is read Memory h f = tt
-handed_on view is read (Stuck kind rest) h f = f (kind, rest.now) h
+handed_on view is read (Fault kind rest) h f = f (kind, rest.now) h
 
 -- a fault of a relation that is handed on
 pub passed_on : {X Y W Z : Type 0} (view : X → Y) (is : Outcome Y → Type 0) (look : W → Z) (was : Outcome Z → Type 0) (e : Failed) → Answers look was (Err e) → ((x : PageKind × Bytes) → was (Err x) → is (Err x)) → Answers view is (Err e)
 passed_on view is look was Memory h f = tt
-passed_on view is look was (Stuck kind rest) h f = f (kind, rest.now) h
+passed_on view is look was (Fault kind rest) h f = f (kind, rest.now) h
 
 -- what is read answers a relation that it is in
 pub given_answers : {X Y : Type 0} (view : X → Y) (is : Outcome Y → Type 0) (read : Outcome Y) (r : Result X Failed) → Gives view r read → is read → Answers view is r
 given_answers view is read (Ok x) h i = subst is h i
 given_answers view is read (Err Memory) h i = tt
-given_answers view is read (Err (Stuck kind rest)) h i = subst is h i
+given_answers view is read (Err (Fault kind rest)) h i = subst is h i
 
 -- ---- a run of text isn't empty
 
@@ -219,4 +220,4 @@ text_taken (b ∷ bs) h = rw (from_on (stops AtMarkup) b bs (run_is_text (b ∷ 
 pub mapped : {X Y : Type 0} (view : X → Y) (is wide : Outcome Y → Type 0) (r : Result X Failed) → ((o : Outcome Y) → is o → wide o) → Answers view is r → Answers view wide r
 mapped view is wide (Ok x) f h = f (Ok (view x)) h
 mapped view is wide (Err Memory) f h = tt
-mapped view is wide (Err (Stuck kind rest)) f h = f (Err (kind, rest.now)) h
+mapped view is wide (Err (Fault kind rest)) f h = f (Err (kind, rest.now)) h

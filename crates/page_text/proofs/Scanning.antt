@@ -6,8 +6,9 @@ use Rattle.std.proofs.lemmas.Bool.Decides.{nat_tests}
 use Rattle.std.specs.Str.{IsUtf8, IsCharBoundary}
 use Rattle.std.proofs.lemmas.Str.{IsCharBoundary-start, IsCharBoundary-before_ascii, IsCharBoundary-after_ascii}
 use Rattle.std.specs.Char.{to_ascii_lowercase}
-use Rattle.page_text.specs.Bytes.{Bytes, opens, is_space, is_name_byte, is_attribute_byte}
-use Rattle.page_text.specs.Scans.{before, from, stops, IsAsciiStop}
+use Rattle.page_text.specs.Bytes.{Bytes, opens, is_name_byte, is_attribute_byte}
+use Rattle.dom_semantics.specs.Whitespace.{is_white_space}
+use Rattle.page_text.specs.ScansModel.{before, from, stops, IsAsciiStop}
 use Rattle.page_text.specs.declared.scan.Stop.{Stop}
 use Rattle.page_text.specs.declared.scan.Stop.TheVariants.{AfterSpace, AfterName, AfterAttribute, AfterUnquoted, AtByte, AtCommentEnd, AtMarkup, AtEndOf}
 
@@ -87,10 +88,10 @@ before_clear q (b ∷ bs) k h = before_clear_at q b bs (q (b ∷ bs)) refl k h (
 name_byte_small : (b : ℕ) → is_name_byte b ≡ true → b < 128
 name_byte_small b h = grind (arith, nat_tests)
 
-space_small : (b : ℕ) → is_space b ≡ true → b < 128
+space_small : (b : ℕ) → is_white_space b ≡ true → b < 128
 space_small b h = grind (arith, nat_tests)
 
-unquoted_small : (b : ℕ) → (is_space b || (b == 62)) ≡ true → b < 128
+unquoted_small : (b : ℕ) → (is_white_space b || (b == 62)) ≡ true → b < 128
 unquoted_small b h = grind (arith, nat_tests)
 
 attribute_small : (b : ℕ) → not (is_attribute_byte b) ≡ true → b < 128

@@ -9,13 +9,13 @@ use Rattle.page_text.specs.declared.faults.PageKind.TheVariants.{TooLong, Unclos
 use Rattle.page_text.specs.declared.scan.Stop.TheVariants.{AfterSpace, AfterName, AfterAttribute, AfterUnquoted, AtByte}
 use Rattle.page_text.specs.declared.tags.Attribute.{Attribute}
 use Rattle.page_text.specs.Bytes.{Bytes, sees, lowered}
-use Rattle.page_text.specs.Scans.{before, from, stops}
-use Rattle.page_text.specs.Values.{read_value}
+use Rattle.page_text.specs.ScansModel.{before, from, stops}
+use Rattle.page_text.specs.ValuesModel.{read_value}
 use Rattle.page_text.specs.Outcomes.{Outcome, ◌>>=◌, checked}
-use Rattle.page_text.specs.Tags as t
-use Rattle.page_text.specs.Tags.{Tag, attribute_of, with_attribute, is_empty, after_space}
+use Rattle.page_text.specs.TagsModel as t
+use Rattle.page_text.specs.TagsModel.{Tag, attribute_of, with_attribute, is_empty, after_space}
 use Rattle.page_text.specs.Grammar.{Upto, Space, AttributeName, Equals, Value, in_quotes, unquoted, IsAttribute, bare, valued, IsEndTag}
-use Rattle.page_text.specs.Values.{spells}
+use Rattle.page_text.specs.ValuesModel.{spells}
 use Rattle.page_text.proofs.Reading.{spelled_front}
 use Rattle.page_text.proofs.Scanning.{parts_join, before_clear, from_stops}
 

@@ -7,12 +7,13 @@ use Rattle.page_text.specs.declared.faults.PageKind.{PageKind}
 use Rattle.page_text.specs.declared.faults.PageKind.TheVariants.{Unclosed, BadTag}
 use Rattle.page_text.specs.declared.scan.Stop.TheVariants.{AfterSpace, AtCommentEnd}
 use Rattle.page_text.specs.declared.tags.Attribute.{Attribute}
-use Rattle.page_text.specs.Bytes.{Bytes, begins, is_space, is_attribute_byte, sees}
-use Rattle.page_text.specs.Scans.{before, from, stops}
-use Rattle.page_text.specs.Values.{spells, with_line_ends}
+use Rattle.page_text.specs.Bytes.{Bytes, begins, is_attribute_byte, sees}
+use Rattle.dom_semantics.specs.Whitespace.{is_white_space}
+use Rattle.page_text.specs.ScansModel.{before, from, stops}
+use Rattle.page_text.specs.ValuesModel.{spells, with_line_ends}
 use Rattle.page_text.specs.Outcomes.{Outcome, ◌>>=◌, checked}
-use Rattle.page_text.specs.Tags as t
-use Rattle.page_text.specs.Tags.{Attributes, after_space, is_empty, with_attribute}
+use Rattle.page_text.specs.TagsModel as t
+use Rattle.page_text.specs.TagsModel.{Attributes, after_space, is_empty, with_attribute}
 use Rattle.page_text.specs.Grammar as g
 use Rattle.page_text.specs.Grammar.{AreAttributes, AreCounted, IsAttribute, IsComment, Space, counted}
 use Rattle.page_text.proofs.Reading.{spelled_front}
@@ -55,7 +56,7 @@ comment_again text content rest e =
 -- what the next attribute of a tag is, or that the tag ends
 abbrev IsNextIn : Bytes → Option Attribute → Bytes → Type 0
 IsNextIn text None rest = AreAttributes text [] rest
-IsNextIn text (Some a) rest = (begins is_space text ≡ true) × (begins is_attribute_byte (after_space text) ≡ true) × IsAttribute (after_space text) a rest
+IsNextIn text (Some a) rest = (begins is_white_space text ≡ true) × (begins is_attribute_byte (after_space text) ≡ true) × IsAttribute (after_space text) a rest
 
 gap_of : (text : Bytes) → Space text (before (stops AfterSpace) text) (after_space text)
 gap_of text = upto_here (stops AfterSpace) text
@@ -72,7 +73,7 @@ slash_ok : (start text : Bytes) (o : Option Attribute) (rest : Bytes) → t.slas
 unfolding t.slash_at
 slash_ok start text o rest h = slash_ok_at start text o rest (sees 62 text) (is_empty text) refl h
 
-next_ok_at : (start text : Bytes) (o : Option Attribute) (rest : Bytes) (v w x y : Bool) → sees 62 (after_space text) ≡ v → sees 47 (after_space text) ≡ w → (begins is_space text && begins is_attribute_byte (after_space text)) ≡ y
+next_ok_at : (start text : Bytes) (o : Option Attribute) (rest : Bytes) (v w x y : Bool) → sees 62 (after_space text) ≡ v → sees 47 (after_space text) ≡ w → (begins is_white_space text && begins is_attribute_byte (after_space text)) ≡ y
     → ◌≡◌ {A = Outcome (Option Attribute × Bytes)} (cond v (Ok (None, drop 1 (after_space text))) (cond w (t.slash_at start (drop 1 (after_space text))) (cond x (Err (Unclosed, start)) (cond y (t.attribute_at start (after_space text) >>= λ z. Ok (Some z.0, z.1)) (Err (BadTag, after_space text)))))) (Ok (o, rest))
     → IsNextIn text o rest
 next_ok_at start text o rest true w x y e d c h =
@@ -92,7 +93,7 @@ next_ok_at start text o rest false false false false e d c h = err_ok _ _ h
 next_ok : (start text : Bytes) (o : Option Attribute) (rest : Bytes) → t.next_at start text ≡ Ok (o, rest) → IsNextIn text o rest
 unfolding t.next_at
 next_ok start text o rest h =
-    next_ok_at start text o rest (sees 62 (after_space text)) (sees 47 (after_space text)) (is_empty (after_space text)) (begins is_space text && begins is_attribute_byte (after_space text)) refl refl refl h
+    next_ok_at start text o rest (sees 62 (after_space text)) (sees 47 (after_space text)) (is_empty (after_space text)) (begins is_white_space text && begins is_attribute_byte (after_space text)) refl refl refl h
 
 -- a byte that stands in no name doesn't begin one
 not_seen : (c : ℕ) → is_attribute_byte c ≡ false → (here : Bytes) → begins is_attribute_byte here ≡ true → (v : Bool) → sees c here ≡ v → v ≡ false
@@ -118,7 +119,7 @@ slashed_again start text gap end rest space is =
     let p = upto_is (stops AfterSpace) text gap end space in
     rw (← p.1, is) refl
 
-more_again : (start text gap here behind : Bytes) (a : Attribute) → Space text gap here → begins is_space text ≡ true → begins is_attribute_byte here ≡ true → IsAttribute here a behind → t.next_at start text ≡ Ok (Some a, behind)
+more_again : (start text gap here behind : Bytes) (a : Attribute) → Space text gap here → begins is_white_space text ≡ true → begins is_attribute_byte here ≡ true → IsAttribute here a behind → t.next_at start text ≡ Ok (Some a, behind)
 unfolding t.next_at
 more_again start text gap here behind a space blank named is =
     let p = upto_is (stops AfterSpace) text gap here space in

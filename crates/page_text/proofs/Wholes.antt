@@ -3,7 +3,7 @@ use Rattle.std.proofs.Common.{◌≡◌, ap, ap₂, refl, ℕ, zero, suc, ◌+�
 use Rattle.std.specs.Prelude.{nat_eq, ◌||◌}
 use Rattle.std.specs.List.{flat_map}
 use Rattle.std.proofs.lemmas.Bool.{eq-eqb}
-use Rattle.door.specs.Forest.{DEPTH_LIMIT, Forest, IsForest, attributes_of, children_of, depth_of, form_at, is_among, is_child}
+use Rattle.dom_semantics.specs.Forest.{DEPTH_LIMIT, Forest, IsForest, attributes_of, children_of, depth_of, form_at, is_among, is_child}
 use Rattle.dom_tree.proofs.Parents.{depth_of-some, own_parents}
 use Rattle.page_text.specs.Printed.{IsPrintedWhole, around, printed, printed_levels, stands_raw}
 

@@ -1,6 +1,6 @@
 -- What is printed of a node before and after what is inside it.
 use Rattle.std.specs.Prelude.{ℕ, Bool, true, false, not, List, [], if◌then◌else◌}
-use Rattle.door.specs.Forest.{Form, Root, Tagged, Written, Noted}
+use Rattle.dom_semantics.specs.Forest.{Form, Root, Tagged, Written, Noted}
 use Rattle.page_text.specs.Nodes.{is_void}
 use Rattle.page_text.specs.Printed.{end_tag, shown_comment, shown_text, start_tag}
 

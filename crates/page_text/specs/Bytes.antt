@@ -1,13 +1,10 @@
 -- Bytes of a page and their classes; the page grammar is this project's own, after HTML's tokenization in outline.
 use Rattle.std.specs.Prelude.{ℕ, Bool, true, false, not, ◌||◌, ◌&&◌, ◌==◌, nat_le, List, [], ◌∷◌, map}
 use Rattle.std.specs.Char.{to_ascii_lowercase}
+use Rattle.dom_semantics.specs.Whitespace.{is_white_space}
 
 abbrev pub Bytes : Type 0
 Bytes = List ℕ
-
--- tab, LF, FF, CR and space (HTML, ASCII whitespace)
-abbrev pub is_space : ℕ → Bool
-is_space b = (b == 32) || ((b == 10) || ((b == 9) || ((b == 13) || (b == 12))))
 
 abbrev pub is_letter : ℕ → Bool
 is_letter b = (nat_le 97 b && nat_le b 122) || (nat_le 65 b && nat_le b 90)
@@ -22,7 +19,7 @@ is_mark b = (b == 34) || ((b == 39) || ((b == 62) || ((b == 47) || ((b == 61) ||
 
 -- what an attribute's name is made of
 abbrev pub is_attribute_byte : ℕ → Bool
-is_attribute_byte b = not (is_space b || is_mark b)
+is_attribute_byte b = not (is_white_space b || is_mark b)
 
 -- the text's first byte is such
 abbrev pub begins : (ℕ → Bool) → Bytes → Bool

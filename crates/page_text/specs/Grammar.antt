@@ -4,10 +4,11 @@ use Rattle.std.specs.Str.{chars}
 use Rattle.base_text.specs.declared.text.TheConstants.{TEXT_LIMIT}
 use Rattle.page_text.specs.declared.scan.Stop.TheVariants.{AfterSpace, AfterName, AfterAttribute, AfterUnquoted, AtByte, AtCommentEnd}
 use Rattle.page_text.specs.declared.tags.Attribute.{Attribute}
-use Rattle.page_text.specs.Bytes.{Bytes, is_space, is_attribute_byte, begins, sees, lowered}
-use Rattle.page_text.specs.Scans.{stops}
-use Rattle.page_text.specs.Values.{with_line_ends, read_value}
-use Rattle.page_text.specs.Tags.{attribute_of, with_attribute}
+use Rattle.page_text.specs.Bytes.{Bytes, is_attribute_byte, begins, sees, lowered}
+use Rattle.dom_semantics.specs.Whitespace.{is_white_space}
+use Rattle.page_text.specs.ScansModel.{stops}
+use Rattle.page_text.specs.ValuesModel.{with_line_ends, read_value}
+use Rattle.page_text.specs.TagsModel.{attribute_of, with_attribute}
 
 -- The text is what stands in front, in which no such place is, and what stands behind: nothing, or what begins at such a place.
 pub record Upto (q : Bytes → Bool) (text front behind : Bytes) : Type 0 where
@@ -48,7 +49,7 @@ pub data IsAttribute (text : Bytes) : Attribute → Bytes → Type 0 where
 pub data AreAttributes : Bytes → List Attribute → Bytes → Type 0 where
   closed : (text gap end rest : Bytes) → Space text gap end → end ≡ 62 ∷ rest → AreAttributes text [] rest
   slashed : (text gap end rest : Bytes) → Space text gap end → end ≡ 47 ∷ (62 ∷ rest) → AreAttributes text [] rest
-  more : (text gap here behind rest : Bytes) (a : Attribute) (others : List Attribute) → Space text gap here → begins is_space text ≡ true → begins is_attribute_byte here ≡ true
+  more : (text gap here behind rest : Bytes) (a : Attribute) (others : List Attribute) → Space text gap here → begins is_white_space text ≡ true → begins is_attribute_byte here ≡ true
       → IsAttribute here a behind → AreAttributes behind others rest → AreAttributes text (a ∷ others) rest
 
 -- those of these attributes that count, behind those that are found: of equal names the first

@@ -7,8 +7,8 @@ pub mod Page
 pub mod Pieces
 pub mod Printed
 pub mod Reads
-pub mod Scans
-pub mod Steps
-pub mod Tags
-pub mod Values
+pub mod ScansModel
+pub mod StepsModel
+pub mod TagsModel
+pub mod ValuesModel
 pub mod Views

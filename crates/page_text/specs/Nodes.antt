@@ -2,9 +2,10 @@
 use Rattle.std.specs.Prelude.{ℕ, Bool, true, cond, ◌&&◌, ◌||◌, List, [], ◌∷◌, ◌++◌, Option, Some, None, map, codes, is_none, encode_utf8_all}
 use Rattle.std.specs.Str.{bytes_eq, str_eq_ignore_ascii_case}
 use Rattle.door.specs.declared.values.Kind.{Kind}
-use Rattle.door.specs.declared.values.Kind.TheVariants.{Document, Element, Str as StrKind, Comment}
+use Rattle.door.specs.declared.values.Kind.TheVariants.{Element, Str as StrKind, Comment}
 use Rattle.door.specs.declared.values.Thing.{Thing}
 use Rattle.door.specs.declared.values.Value.TheVariants.{Thing as ThingValue, Str}
+use Rattle.door.specs.declared.values.TheConstants.{DOCUMENT}
 use Rattle.door.specs.declared.members.Member.TheVariants.{DocumentCreateElement, DocumentCreateTextNode, DocumentCreateComment, ElementSetAttribute, NodeAppendChild}
 use Rattle.door.specs.declared.requests.Request.{Request}
 use Rattle.door.specs.declared.requests.Request.TheVariants.{Native}
@@ -16,7 +17,7 @@ abbrev pub thing_of : Kind → ℕ → Thing
 thing_of kind number = record { kind = kind; number = number }
 
 abbrev pub the_document : Thing
-the_document = thing_of Document 0
+the_document = DOCUMENT
 
 abbrev pub appended : Thing → Thing → Request
 appended parent child = Native NodeAppendChild parent (ThingValue child ∷ [])

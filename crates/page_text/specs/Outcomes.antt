@@ -5,7 +5,7 @@ use Rattle.base_text.specs.declared.text.TheConstants.{TEXT_LIMIT}
 use Rattle.page_text.specs.declared.faults.PageKind.{PageKind}
 use Rattle.page_text.specs.declared.faults.PageKind.TheVariants.{TooLong}
 use Rattle.page_text.specs.declared.faults.Failed.{Failed}
-use Rattle.page_text.specs.declared.faults.Failed.TheVariants.{Memory, Stuck}
+use Rattle.page_text.specs.declared.faults.Failed.TheVariants.{Memory, Fault}
 use Rattle.page_text.specs.Bytes.{Bytes}
 
 abbrev pub Outcome : Type 0 → Type 0
@@ -19,7 +19,7 @@ abbrev pub ◌>>=◌ : {A B : Type 0} → Outcome A → (A → Outcome B) → Ou
 -- What a function returned, seen by view, is what the reading answers, unless memory ran out.
 abbrev pub Fails : {Y : Type 0} → Failed → Outcome Y → Type 0
 Fails Memory read = Unit {0}
-Fails (Stuck kind rest) read = read ≡ Err (kind, rest.now)
+Fails (Fault kind rest) read = read ≡ Err (kind, rest.now)
 
 abbrev pub Gives : {X Y : Type 0} → (X → Y) → Result X Failed → Outcome Y → Type 0
 Gives view (Ok x) read = read ≡ Ok (view x)
@@ -33,7 +33,7 @@ checked read at = cond (nat_lt TEXT_LIMIT (length read)) (Err (TooLong, at)) (Ok
 abbrev pub Answers : {X Y : Type 0} → (X → Y) → (Outcome Y → Type 0) → Result X Failed → Type 0
 Answers view is (Ok x) = is (Ok (view x))
 Answers view is (Err Memory) = Unit {0}
-Answers view is (Err (Stuck kind rest)) = is (Err (kind, rest.now))
+Answers view is (Err (Fault kind rest)) = is (Err (kind, rest.now))
 
 -- what is left of a text, which is a text, and no longer, or shorter
 abbrev pub IsRest : Bytes → Bytes → Type 0

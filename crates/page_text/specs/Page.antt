@@ -10,9 +10,10 @@ use Rattle.page_text.specs.declared.faults.PageKind.TheVariants.{TooLong, NotUtf
 use Rattle.page_text.specs.declared.pieces.Piece.{Piece}
 use Rattle.page_text.specs.declared.reader.Over.{Over}
 use Rattle.page_text.specs.declared.reader.Over.TheVariants.{No, Ended, Refused}
+use Rattle.door.specs.declared.limits.TheConstants.{PAGE_LIMIT}
 use Rattle.page_text.specs.Bytes.{Bytes}
-use Rattle.page_text.specs.Values.{spells}
-use Rattle.page_text.specs.Steps.{State}
+use Rattle.page_text.specs.ValuesModel.{spells}
+use Rattle.page_text.specs.StepsModel.{State}
 use Rattle.page_text.specs.Pieces.{PieceFrom}
 
 -- how far a page is read: its length, the state, and whether it is over
@@ -49,7 +50,7 @@ at_start bytes over = record { size = start_size over bytes; state = start (star
 -- first the length, then UTF-8
 abbrev pub checked_page : Bytes → Over
 checked_page bytes =
-    cond (nat_lt 4194304 (length bytes)) (Refused (fault_at 4194304 TooLong))
+    cond (nat_lt PAGE_LIMIT (length bytes)) (Refused (fault_at PAGE_LIMIT TooLong))
     (cond (is_utf8 bytes) No (Refused (fault_at (utf8_valid_len bytes) NotUtf8)))
 
 -- before a page is read

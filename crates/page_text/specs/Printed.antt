@@ -4,7 +4,7 @@ use Rattle.std.specs.Prelude.{◌≡◌, ℕ, Bool, false, ◌||◌, ◌==◌, L
 use Rattle.std.specs.List.{flat_map}
 use Rattle.std.specs.Option.{option_map_or}
 use Prim.Native.Nat.{zero, suc}
-use Rattle.door.specs.Forest.{Form, Root, Tagged, Written, Noted, Forest, DEPTH_LIMIT, form_at, attributes_of, children_of, parent_of}
+use Rattle.dom_semantics.specs.Forest.{Form, Root, Tagged, Written, Noted, Forest, DEPTH_LIMIT, form_at, attributes_of, children_of, parent_of}
 use Rattle.page_text.specs.Nodes.{is_named, is_void}
 
 -- elements whose texts stand raw (HTML, Raw text elements)

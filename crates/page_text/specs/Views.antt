@@ -4,7 +4,7 @@ use Rattle.std.proofs.Common.{Vec, Global}
 use Rattle.page_text.specs.declared.reader.Over.{Over}
 use Rattle.page_text.specs.declared.state.Open.{Open as ReadOpen}
 use Rattle.page_text.specs.Bytes.{Bytes}
-use Rattle.page_text.specs.Steps.{Open, open_of}
+use Rattle.page_text.specs.StepsModel.{Open, open_of}
 use Rattle.page_text.specs.Page.{Progress}
 
 abbrev pub opens_of : Option (Vec ReadOpen Global) → List Open

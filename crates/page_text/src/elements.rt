@@ -2,9 +2,10 @@
 
 ghost use Rattle.std.specs.Prelude.{◌≡◌, ◌<◌, ◌≤◌, ◌&&◌, IfOk, drop, length};
 ghost use Rattle.std.specs.Str.{IsUtf8};
+ghost use Rattle.door.specs.declared.limits.TheConstants.{DEPTH_LIMIT, NODE_LIMIT};
 ghost use Rattle.page_text.specs.Outcomes.{Answers, Gives, IsRest, checked};
-ghost use Rattle.page_text.specs.Steps as spec;
-ghost use Rattle.page_text.specs.Tags as tags_spec;
+ghost use Rattle.page_text.specs.StepsModel as spec;
+ghost use Rattle.page_text.specs.TagsModel as tags_spec;
 
 use crate::faults::{Failed, PageKind};
 use crate::scan::{Raw, Stop, scan};
@@ -25,7 +26,7 @@ fn read_raw<'a>(alloc: Global, raw: Raw, text: &str, at: &'a str) -> Result<Text
 }
 
 /// The text inside of an element whose content is one text, and what stands from its end tag on.
-#[tactic(auto, unfolding(crate::specs::Steps::inside_at))]
+#[tactic(auto, unfolding(crate::specs::StepsModel::inside_at))]
 fn inside_at<'a>(
     alloc: Global,
     next: u32,
@@ -34,8 +35,8 @@ fn inside_at<'a>(
     start: &'a str,
     text: &'a str,
 ) -> Result<Text, Failed<'a>>
-    requires small { next < 100000 }
-    requires shallow { depth < 256 }
+    requires small { next < NODE_LIMIT }
+    requires shallow { depth < DEPTH_LIMIT }
     ensures { Gives (λ t. t) result (spec.inside_at next depth raw start.now text.now) }
 {
     let (content, end) = scan(text, Stop::AtEndOf(raw));
@@ -43,14 +44,14 @@ fn inside_at<'a>(
         room_at(next + 1, depth + 1, text)?;
     }
     if is_empty(end) {
-        return Err(Failed::Stuck(PageKind::Unclosed, start));
+        return Err(Failed::Fault(PageKind::Unclosed, start));
     }
     read_raw(alloc, raw, content, text)
 }
 
 /// An element is made from its start tag.
 fn made<'a>(alloc: Global, s: State<'a>, t: Tag<'a>) -> Mem<(State<'a>, Vec<Attribute>)>
-    requires { s.next < 100000 }
+    requires { s.next < NODE_LIMIT }
     ensures value { IfOk result (λ x. spec.state_of x.0 ≡ spec.made (spec.state_of s.entry) (tags_spec.tag_of t.entry)) }
     ensures attributes { IfOk result (λ x. x.1.items ≡ t.entry.attributes.items) }
     ensures rest { IfOk result (λ x. x.0.rest.now ≡ t.entry.rest.now) }
@@ -89,7 +90,7 @@ fn made<'a>(alloc: Global, s: State<'a>, t: Tag<'a>) -> Mem<(State<'a>, Vec<Attr
 
 /// An element with content is open.
 fn opened<'a>(alloc: Global, s: State<'a>, t: Tag<'a>) -> Mem<State<'a>>
-    requires small { s.next < 100000 }
+    requires small { s.next < NODE_LIMIT }
     requires tag { t.raw.now ≡ tags_spec.name_of (drop 1 s.rest.now) }
     ensures value { IfOk result (λ x. spec.state_of x ≡ spec.opened (spec.state_of s.entry) (tags_spec.tag_of t.entry)) }
     ensures rest { IfOk result (λ x. x.rest.now ≡ t.entry.rest.now) }
@@ -111,7 +112,7 @@ fn filled<'a>(
     text: Text,
     rest: &'a str,
 ) -> Mem<State<'a>>
-    requires { s.next ≤ 100000 }
+    requires { s.next ≤ NODE_LIMIT }
     ensures value { IfOk result (λ x. spec.state_of x ≡ spec.filled number (spec.state_of s.entry) empty text rest.now) }
     ensures rest { IfOk result (λ x. x.rest.now ≡ rest.now) }
 {
@@ -142,13 +143,13 @@ fn scripted<'a>(s: State<'a>, attributes: &[Attribute], text: Text) -> Mem<Step<
     ensures rest { IfOk result (λ x. spec.rest_of x ≡ s.entry.rest.now) }
 {
     if is_runnable(attributes) {
-        return Ok(Step::Cut(text, s));
+        return Ok(Step::Script(text, s));
     }
     let mut s = s;
     if let Some(source) = value_of("src", attributes) {
         s.external.push(source.share()?)?;
     }
-    Ok(Step::Went(s))
+    Ok(Step::Next(s))
 }
 
 fn closed_raw<'a>(raw: Raw, s: State<'a>, attributes: &[Attribute], text: Text) -> Mem<Step<'a>>
@@ -157,15 +158,15 @@ fn closed_raw<'a>(raw: Raw, s: State<'a>, attributes: &[Attribute], text: Text) 
 {
     match raw {
         Raw::Script => scripted(s, attributes, text),
-        Raw::Style | Raw::Title | Raw::Textarea => Ok(Step::Went(s)),
+        Raw::Style | Raw::Title | Raw::Textarea => Ok(Step::Next(s)),
     }
 }
 
 /// An element whose content is one text, up to its end tag.
-#[tactic(auto, unfolding(crate::specs::Steps::raw_step))]
+#[tactic(auto, unfolding(crate::specs::StepsModel::raw_step))]
 fn raw_step<'a>(alloc: Global, s: State<'a>, t: Tag<'a>, raw: Raw) -> Result<Step<'a>, Failed<'a>>
-    requires small { s.next < 100000 }
-    requires shallow { length s.open_elements.items < 256 }
+    requires small { s.next < NODE_LIMIT }
+    requires shallow { length s.open_elements.items < DEPTH_LIMIT }
     ensures value { Gives (λ x. spec.step_of x) result (spec.raw_step (spec.state_of s.entry) (tags_spec.tag_of t.entry) raw) }
     ensures rest { IfOk result (λ x. IsRest t.entry.rest.now (spec.rest_of x)) }
 {
@@ -188,8 +189,8 @@ fn raw_step<'a>(alloc: Global, s: State<'a>, t: Tag<'a>, raw: Raw) -> Result<Ste
 
 /// What follows a start tag.
 fn tag_step<'a>(alloc: Global, s: State<'a>, t: Tag<'a>) -> Result<Step<'a>, Failed<'a>>
-    requires small { s.next < 100000 }
-    requires shallow { length s.open_elements.items < 256 }
+    requires small { s.next < NODE_LIMIT }
+    requires shallow { length s.open_elements.items < DEPTH_LIMIT }
     requires tag { t.raw.now ≡ tags_spec.name_of (drop 1 s.rest.now) }
     requires text { IsUtf8 t.rest.now }
     ensures value { Gives (λ x. spec.step_of x) result (spec.tag_step (spec.state_of s.entry) (tags_spec.tag_of t.entry)) }
@@ -197,10 +198,10 @@ fn tag_step<'a>(alloc: Global, s: State<'a>, t: Tag<'a>) -> Result<Step<'a>, Fai
 {
     if is_void(&t.name) {
         let (state, _) = made(alloc, s, t)?;
-        return Ok(Step::Went(state));
+        return Ok(Step::Next(state));
     }
     match raw_of(&t.name) {
-        None => Ok(Step::Went(opened(alloc, s, t)?)),
+        None => Ok(Step::Next(opened(alloc, s, t)?)),
         Some(raw) => raw_step(alloc, s, t, raw),
     }
 }
@@ -238,7 +239,7 @@ pub(crate) fn first_element<'a>(
     ensures rest { IfOk result (λ x. IsRest inside.now (spec.rest_of x)) }
 {
     if is_second(&s) {
-        return Err(Failed::Stuck(PageKind::BadTag, s.rest));
+        return Err(Failed::Fault(PageKind::BadTag, s.rest));
     }
     element_step(alloc, s, inside)
 }

@@ -33,7 +33,7 @@ pub struct PageFault {
 #[derive(Drop)]
 pub(crate) enum Failed<'a> {
     Memory,
-    Stuck(PageKind, &'a str),
+    Fault(PageKind, &'a str),
 }
 
 impl<'a> From<AllocError> for Failed<'a> {

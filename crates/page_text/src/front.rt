@@ -2,9 +2,9 @@
 
 ghost use Rattle.std.specs.Prelude.{◌≡◌, ◌&&◌, codes, drop, false};
 ghost use Rattle.page_text.specs.Bytes as bytes_spec;
-ghost use Rattle.page_text.specs.Steps as spec;
-ghost use Rattle.page_text.specs.Tags as tags_spec;
-ghost use Rattle.page_text.specs.Values.{spells};
+ghost use Rattle.page_text.specs.StepsModel as spec;
+ghost use Rattle.page_text.specs.TagsModel as tags_spec;
+ghost use Rattle.page_text.specs.ValuesModel.{spells};
 
 use crate::scan::{begins_letter, opens};
 use crate::tags::is_empty;

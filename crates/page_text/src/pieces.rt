@@ -2,7 +2,7 @@
 
 ghost use Rattle.std.specs.Prelude.{◌≡◌, IfOk};
 ghost use Rattle.page_text.specs.Outcomes.{Answers};
-ghost use Rattle.page_text.specs.Steps as steps;
+ghost use Rattle.page_text.specs.StepsModel as steps;
 ghost use Rattle.page_text.specs.Pieces as spec;
 
 use crate::faults::Failed;
@@ -39,9 +39,9 @@ pub(crate) fn read_piece<'a>(
             Ok(step) => step,
         };
         match step {
-            Step::Went(next) => state = next,
-            Step::Cut(script, next) => return Ok((Some(script), next)),
-            Step::Done(next) => return Ok((None, next)),
+            Step::Next(next) => state = next,
+            Step::Script(script, next) => return Ok((Some(script), next)),
+            Step::End(next) => return Ok((None, next)),
         }
     }
 }

@@ -2,17 +2,14 @@
 
 ghost use Rattle.std.specs.Prelude.{◌≡◌, ◌<◌, ◌++◌, ℕ, codes, encode_utf8_all, length, IfOk, OnOk};
 ghost use Rattle.std.specs.List.{flat_map};
-ghost use Rattle.door.specs.Forest.{Forest, IsForest, attributes_of, form_at};
+ghost use Rattle.dom_semantics.specs.Forest.{Forest, IsForest, attributes_of, form_at};
 ghost use Rattle.page_text.specs.Printed as spec;
 ghost use Rattle.page_text.specs.Around.{back_of, front_of, has_inside};
 
 use crate::writes::{is_named, is_void};
 use base_text::{Mem, NoMemory, Text};
-use dom_tree::{NodeForm, NodeId, Tree};
+use dom_tree::{NodeForm, NodeId, TREE_LEVELS, Tree};
 use std::alloc::Global;
-
-/// The most levels of a tree: a node without a parent, and 256 below it.
-const LEVELS: u32 = 257;
 
 /// The text of a node and all below it, in UTF-8 (HTML, Serializing HTML fragments).
 ///
@@ -26,7 +23,7 @@ pub fn print(alloc: Global, tree: &Tree, node: NodeId) -> Mem<Vec<u8>>
     ensures ok { IfOk result (λ out. out.items ≡ encode_utf8_all (spec.printed tree.now node.0)) }
 {
     let mut out = Vec::new(alloc);
-    push_node(&mut out, tree, node.0, LEVELS)?;
+    push_node(&mut out, tree, node.0, TREE_LEVELS)?;
     Ok(out)
 }
 

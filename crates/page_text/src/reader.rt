@@ -1,9 +1,10 @@
 //! Reading a page piece by piece.
 
 ghost use Rattle.std.specs.Prelude.{◌≡◌, ◌≤◌, ◌-◌, ℕ, List, None, Some, Ok, Err, length, map, IfOk, IfErr, MatchOption};
+ghost use Rattle.door.specs.declared.limits.TheConstants.{PAGE_LIMIT};
 ghost use Rattle.page_text.specs.Page as spec;
 ghost use Rattle.page_text.specs.Reads as reads;
-ghost use Rattle.page_text.specs.Steps as steps;
+ghost use Rattle.page_text.specs.StepsModel as steps;
 ghost use Rattle.page_text.specs.Views.{opens_of};
 
 use crate::faults::{Failed, PageFault, PageKind};
@@ -12,12 +13,9 @@ use crate::state::{Open, State};
 use crate::values::after;
 use crate::writes::Requests;
 use base_text::{Mem, OrMemory, Text};
-use door::Texts;
+use door::{PAGE_LIMIT, Texts};
 use std::alloc::Global;
 use std::marker::Model;
-
-/// The most bytes that a page has.
-const PAGE_LIMIT: usize = 4_194_304;
 
 /// Whether a reading is over, and how.
 #[derive(Clone, Copy)]
@@ -50,7 +48,7 @@ impl<'a> Model for PageReader<'a> {
 /// The page's text, or the fault of its length or its bytes.
 fn text_of_page(bytes: &[u8]) -> Result<&str, PageFault>
     ensures ok { IfOk result (λ text. (text.now ≡ bytes.now) × (spec.checked_page bytes.now ≡ Over.No)) }
-    ensures len { IfOk result (λ text. length bytes.now ≤ 4194304) }
+    ensures len { IfOk result (λ text. length bytes.now ≤ PAGE_LIMIT) }
     ensures err { IfErr result (λ f. spec.checked_page bytes.now ≡ Over.Refused f) }
 {
     if bytes.len() > PAGE_LIMIT {
@@ -204,7 +202,7 @@ impl<'a> PageReader<'a> {
         match read_piece(alloc, state) {
             Ok((script, state)) => Ok(Some(self.keep(script, state))),
             Err(Failed::Memory) => Err(OrMemory::NoMemory),
-            Err(Failed::Stuck(kind, rest)) => {
+            Err(Failed::Fault(kind, rest)) => {
                 let fault = fault_at(self.size, rest.len(), kind);
                 self.refuse(fault);
                 Err(OrMemory::Fault(fault))

@@ -3,7 +3,8 @@
 ghost use Rattle.std.specs.Prelude.{◌≡◌, ◌<◌, ◌≤◌, ◌==◌, ◌+◌, IfNone, IfSome, MatchOption, List, ℕ, Bool, false, ◌∷◌, drop, length, take};
 ghost use Rattle.std.specs.Str.{IsUtf8};
 ghost use Rattle.page_text.specs.Bytes as bytes_spec;
-ghost use Rattle.page_text.specs.Scans.{IsAsciiStop, before, from, stops, is_raw_end, is_end_of, is_markup, is_markup_byte, ends_raw_name, raw_name};
+ghost use Rattle.dom_semantics.specs.Whitespace.{is_white_space};
+ghost use Rattle.page_text.specs.ScansModel.{IsAsciiStop, before, from, stops, is_raw_end, is_end_of, is_markup, is_markup_byte, ends_raw_name, raw_name};
 
 /// An element whose content is read as one text, up to its end tag.
 #[derive(Clone, Copy, Debug, PartialEq, Eq)]
@@ -35,8 +36,8 @@ pub(crate) enum Stop {
     AtEndOf(Raw),
 }
 
-pub(crate) fn is_space(b: u8) -> bool
-    ensures { result ≡ bytes_spec.is_space b }
+pub(crate) fn is_white_space(b: u8) -> bool
+    ensures { result ≡ is_white_space b }
 {
     matches!(b, b' ' | b'\n' | b'\t' | b'\r' | 12)
 }
@@ -56,7 +57,7 @@ fn is_name_byte(b: u8) -> bool
 pub(crate) fn is_attribute_byte(b: u8) -> bool
     ensures { result ≡ bytes_spec.is_attribute_byte b }
 {
-    !(is_space(b) || matches!(b, b'"' | b'\'' | b'>' | b'/' | b'=' | b'<'))
+    !(is_white_space(b) || matches!(b, b'"' | b'\'' | b'>' | b'/' | b'=' | b'<'))
 }
 
 /// Whether the text begins with a word of lower-case letters, its letters in any case.
@@ -106,11 +107,11 @@ impl Stop {
 }
 
 pub(crate) fn begins_space(text: &[u8]) -> bool
-    ensures { result ≡ bytes_spec.begins bytes_spec.is_space text.now }
+    ensures { result ≡ bytes_spec.begins is_white_space text.now }
 {
     match text {
         [] => false,
-        [b, ..] => is_space(*b),
+        [b, ..] => is_white_space(*b),
     }
 }
 
@@ -146,7 +147,7 @@ fn ends_unquoted(text: &[u8]) -> bool
 {
     match text {
         [] => false,
-        [b, ..] => is_space(*b) || *b == b'>',
+        [b, ..] => is_white_space(*b) || *b == b'>',
     }
 }
 
@@ -194,7 +195,7 @@ fn ends_name(text: &[u8]) -> bool
 {
     match text {
         [] => false,
-        [b, ..] => is_space(*b) || *b == b'/' || *b == b'>',
+        [b, ..] => is_white_space(*b) || *b == b'/' || *b == b'>',
     }
 }
 

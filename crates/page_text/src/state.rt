@@ -1,19 +1,14 @@
 //! The state of a reading between two nodes.
 
 ghost use Rattle.std.specs.Prelude.{◌≡◌, ◌<◌, None, Some, IfOk, MatchOption, length, map};
+ghost use Rattle.door.specs.declared.limits.TheConstants.{DEPTH_LIMIT, NODE_LIMIT};
 ghost use Rattle.page_text.specs.Outcomes.{Gives};
-ghost use Rattle.page_text.specs.Steps as spec;
+ghost use Rattle.page_text.specs.StepsModel as spec;
 
 use crate::faults::{Failed, PageKind};
 use crate::writes::Requests;
 use base_text::Text;
-use door::{Kind, Texts, Thing};
-
-/// The most nodes that the host makes, the document counted.
-const NODE_LIMIT: u32 = 100_000;
-
-/// The most steps of a node below the document.
-const DEPTH_LIMIT: usize = 256;
+use door::{DEPTH_LIMIT, Kind, NODE_LIMIT, Texts, Thing};
 
 /// An open element: the page's text from its start tag on, and its number.
 #[derive(Clone, Copy)]
@@ -44,32 +39,32 @@ pub(crate) struct State<'a> {
 #[derive(Drop)]
 pub(crate) enum Step<'a> {
     /// A node, an end tag, or what is dropped.
-    Went(State<'a>),
+    Next(State<'a>),
     /// A runnable script, with its text.
-    Cut(Text, State<'a>),
+    Script(Text, State<'a>),
     /// The page's end.
-    Done(State<'a>),
+    End(State<'a>),
 }
 
-#[tactic(auto, unfolding(crate::specs::Steps::room_at))]
+#[tactic(auto, unfolding(crate::specs::StepsModel::room_at))]
 pub(crate) fn room_at<'a>(next: u32, depth: usize, text: &'a str) -> Result<(), Failed<'a>>
     ensures value { Gives (λ _. tt) result (spec.room_at next depth text.now) }
-    ensures small { IfOk result (λ _. next < 100000) }
-    ensures shallow { IfOk result (λ _. depth < 256) }
+    ensures small { IfOk result (λ _. next < NODE_LIMIT) }
+    ensures shallow { IfOk result (λ _. depth < DEPTH_LIMIT) }
 {
     if next >= NODE_LIMIT {
-        return Err(Failed::Stuck(PageKind::TooLong, text));
+        return Err(Failed::Fault(PageKind::TooLong, text));
     }
-    if depth >= DEPTH_LIMIT {
-        return Err(Failed::Stuck(PageKind::TooDeep, text));
+    if depth >= DEPTH_LIMIT as usize {
+        return Err(Failed::Fault(PageKind::TooDeep, text));
     }
     Ok(())
 }
 
 pub(crate) fn room<'a>(s: &State<'a>) -> Result<(), Failed<'a>>
     ensures value { Gives (λ _. tt) result (spec.room (spec.state_of s.now)) }
-    ensures small { IfOk result (λ _. s.now.next < 100000) }
-    ensures shallow { IfOk result (λ _. length s.now.open_elements.items < 256) }
+    ensures small { IfOk result (λ _. s.now.next < NODE_LIMIT) }
+    ensures shallow { IfOk result (λ _. length s.now.open_elements.items < DEPTH_LIMIT) }
 {
     room_at(s.next, s.open_elements.len(), s.rest)
 }

@@ -3,7 +3,7 @@
 ghost use Rattle.std.specs.Prelude.{◌≡◌, IfOk, drop};
 ghost use Rattle.page_text.specs.Bytes as bytes_spec;
 ghost use Rattle.page_text.specs.Outcomes.{Answers, Gives, IsLess, IsRest};
-ghost use Rattle.page_text.specs.Steps as spec;
+ghost use Rattle.page_text.specs.StepsModel as spec;
 
 use crate::elements::first_element;
 use crate::faults::{Failed, PageKind};
@@ -16,7 +16,7 @@ use crate::writes::{push_comment, push_text};
 use std::alloc::Global;
 
 /// A run of text.
-#[tactic(auto, unfolding(crate::specs::Steps::text_step))]
+#[tactic(auto, unfolding(crate::specs::StepsModel::text_step))]
 fn text_step<'a>(alloc: Global, s: State<'a>) -> Result<State<'a>, Failed<'a>>
     ensures value { Gives (λ t. spec.state_of t) result (spec.text_step (spec.state_of s.entry)) }
     ensures rest { spec.front_of s.entry.rest.now ≡ spec.run → IfOk result (λ t. IsLess s.entry.rest.now t.rest.now) }
@@ -44,7 +44,7 @@ fn text_step<'a>(alloc: Global, s: State<'a>) -> Result<State<'a>, Failed<'a>>
 }
 
 /// A comment.
-#[tactic(auto, unfolding(crate::specs::Steps::comment_step))]
+#[tactic(auto, unfolding(crate::specs::StepsModel::comment_step))]
 fn comment_step<'a>(alloc: Global, s: State<'a>, inside: &'a str) -> Result<State<'a>, Failed<'a>>
     requires { inside.now ≡ drop 4 s.rest.now }
     ensures value { Gives (λ t. spec.state_of t) result (spec.comment_step (spec.state_of s.entry)) }
@@ -72,7 +72,7 @@ fn comment_step<'a>(alloc: Global, s: State<'a>, inside: &'a str) -> Result<Stat
 }
 
 /// A doctype.
-#[tactic(auto, unfolding(crate::specs::Steps::doctype_step))]
+#[tactic(auto, unfolding(crate::specs::StepsModel::doctype_step))]
 fn doctype_step<'a>(s: State<'a>) -> Result<State<'a>, Failed<'a>>
     ensures value { Gives (λ t. spec.state_of t) result (spec.doctype_step (spec.state_of s.entry)) }
     ensures rest { IfOk result (λ t. IsLess s.entry.rest.now t.rest.now) }
@@ -82,17 +82,17 @@ fn doctype_step<'a>(s: State<'a>) -> Result<State<'a>, Failed<'a>>
 }
 
 /// The innermost open element is ended, where it has this name.
-#[tactic(auto, unfolding(crate::specs::Steps::ended))]
+#[tactic(auto, unfolding(crate::specs::StepsModel::ended))]
 fn ended<'a>(s: State<'a>, name: &str, behind: &'a str) -> Result<State<'a>, Failed<'a>>
     ensures value { Gives (λ t. spec.state_of t) result (spec.ended (spec.state_of s.entry) (bytes_spec.lowered name.now) behind.now (spec.innermost (spec.state_of s.entry).open_elements)) }
     ensures rest { IfOk result (λ t. t.rest.now ≡ behind.now) }
 {
     let rest = s.rest;
     match innermost_of(&s.open_elements) {
-        None => Err(Failed::Stuck(PageKind::WrongEnd, rest)),
+        None => Err(Failed::Fault(PageKind::WrongEnd, rest)),
         Some(innermost) => {
             if !innermost.tag.eq_ignore_ascii_case(name) {
-                return Err(Failed::Stuck(PageKind::WrongEnd, rest));
+                return Err(Failed::Fault(PageKind::WrongEnd, rest));
             }
             Ok(without_innermost(s, behind))
         }
@@ -100,7 +100,7 @@ fn ended<'a>(s: State<'a>, name: &str, behind: &'a str) -> Result<State<'a>, Fai
 }
 
 /// An end tag.
-#[tactic(auto, unfolding(crate::specs::Steps::end_step))]
+#[tactic(auto, unfolding(crate::specs::StepsModel::end_step))]
 fn end_step<'a>(s: State<'a>) -> Result<State<'a>, Failed<'a>>
     ensures value { Gives (λ t. spec.state_of t) result (spec.end_step (spec.state_of s.entry)) }
     ensures rest { IfOk result (λ t. IsLess s.entry.rest.now t.rest.now) }
@@ -109,53 +109,53 @@ fn end_step<'a>(s: State<'a>) -> Result<State<'a>, Failed<'a>>
     ended(s, name, behind)
 }
 
-fn end_of<'a>(s: State<'a>) -> Result<Step<'a>, Failed<'a>>
-    ensures { Gives (λ x. spec.step_of x) result (spec.end_of (spec.state_of s.entry) (spec.innermost (spec.state_of s.entry).open_elements)) }
+fn at_end<'a>(s: State<'a>) -> Result<Step<'a>, Failed<'a>>
+    ensures { Gives (λ x. spec.step_of x) result (spec.at_end (spec.state_of s.entry) (spec.innermost (spec.state_of s.entry).open_elements)) }
 {
     match innermost_of(&s.open_elements) {
-        None => Ok(Step::Done(s)),
-        Some(innermost) => Err(Failed::Stuck(PageKind::Unclosed, innermost.start)),
+        None => Ok(Step::End(s)),
+        Some(innermost) => Err(Failed::Fault(PageKind::Unclosed, innermost.start)),
     }
 }
 
 /// A run of text, or white space at the top.
-fn text_of<'a>(alloc: Global, s: State<'a>) -> Result<Step<'a>, Failed<'a>>
-    ensures value { Gives (λ x. spec.step_of x) result (spec.text_of (spec.state_of s.entry)) }
+fn at_text<'a>(alloc: Global, s: State<'a>) -> Result<Step<'a>, Failed<'a>>
+    ensures value { Gives (λ x. spec.step_of x) result (spec.at_text (spec.state_of s.entry)) }
     ensures rest { spec.front_of s.entry.rest.now ≡ spec.run → IfOk result (λ x. IsLess s.entry.rest.now (spec.rest_of x)) }
 {
     if !is_at_top(&s) {
-        return Ok(Step::Went(text_step(alloc, s)?));
+        return Ok(Step::Next(text_step(alloc, s)?));
     }
     if !begins_space(s.rest.as_bytes()) {
-        return Err(Failed::Stuck(PageKind::BadTag, s.rest));
+        return Err(Failed::Fault(PageKind::BadTag, s.rest));
     }
     let rest = after_space(s.rest);
-    Ok(Step::Went(State { rest, ..s }))
+    Ok(Step::Next(State { rest, ..s }))
 }
 
-fn doctype_of<'a>(s: State<'a>) -> Result<Step<'a>, Failed<'a>>
-    ensures value { Gives (λ x. spec.step_of x) result (spec.doctype_of (spec.state_of s.entry)) }
+fn at_doctype<'a>(s: State<'a>) -> Result<Step<'a>, Failed<'a>>
+    ensures value { Gives (λ x. spec.step_of x) result (spec.at_doctype (spec.state_of s.entry)) }
     ensures rest { IfOk result (λ x. IsLess s.entry.rest.now (spec.rest_of x)) }
 {
     if !is_at_top(&s) || s.begun {
-        return Err(Failed::Stuck(PageKind::BadTag, s.rest));
+        return Err(Failed::Fault(PageKind::BadTag, s.rest));
     }
-    Ok(Step::Went(doctype_step(s)?))
+    Ok(Step::Next(doctype_step(s)?))
 }
 
-fn comment_of<'a>(alloc: Global, s: State<'a>, inside: &'a str) -> Result<Step<'a>, Failed<'a>>
+fn at_comment<'a>(alloc: Global, s: State<'a>, inside: &'a str) -> Result<Step<'a>, Failed<'a>>
     requires { inside.now ≡ drop 4 s.rest.now }
-    ensures value { Gives (λ x. spec.step_of x) result (spec.went (spec.comment_step (spec.state_of s.entry))) }
+    ensures value { Gives (λ x. spec.step_of x) result (spec.next_of (spec.comment_step (spec.state_of s.entry))) }
     ensures rest { IfOk result (λ x. IsRest inside.now (spec.rest_of x)) }
 {
-    Ok(Step::Went(comment_step(alloc, s, inside)?))
+    Ok(Step::Next(comment_step(alloc, s, inside)?))
 }
 
-fn end_tag_of<'a>(s: State<'a>) -> Result<Step<'a>, Failed<'a>>
-    ensures value { Gives (λ x. spec.step_of x) result (spec.went (spec.end_step (spec.state_of s.entry))) }
+fn at_end_tag<'a>(s: State<'a>) -> Result<Step<'a>, Failed<'a>>
+    ensures value { Gives (λ x. spec.step_of x) result (spec.next_of (spec.end_step (spec.state_of s.entry))) }
     ensures rest { IfOk result (λ x. IsLess s.entry.rest.now (spec.rest_of x)) }
 {
-    Ok(Step::Went(end_step(s)?))
+    Ok(Step::Next(end_step(s)?))
 }
 
 /// The step from a state.
@@ -164,12 +164,12 @@ pub(crate) fn next_step<'a>(alloc: Global, s: State<'a>) -> Result<Step<'a>, Fai
     ensures less { IfOk result (λ x. spec.GoesOn s.entry.rest.now x) }
 {
     match front_of(s.rest) {
-        Front::End => end_of(s),
-        Front::Text => text_of(alloc, s),
-        Front::Comment(inside) => comment_of(alloc, s, inside),
-        Front::Doctype => doctype_of(s),
-        Front::EndTag => end_tag_of(s),
-        Front::Bad => Err(Failed::Stuck(PageKind::BadTag, s.rest)),
+        Front::End => at_end(s),
+        Front::Text => at_text(alloc, s),
+        Front::Comment(inside) => at_comment(alloc, s, inside),
+        Front::Doctype => at_doctype(s),
+        Front::EndTag => at_end_tag(s),
+        Front::Bad => Err(Failed::Fault(PageKind::BadTag, s.rest)),
         Front::StartTag(inside) => first_element(alloc, s, inside),
     }
 }

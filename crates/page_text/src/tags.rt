@@ -5,12 +5,13 @@ ghost use Rattle.std.specs.List.{list_any};
 ghost use Rattle.std.specs.Str.{IsCharBoundary, bytes_eq};
 ghost use Rattle.page_text.specs.Bytes.{lowered};
 ghost use Rattle.page_text.specs.Bytes as bytes_spec;
+ghost use Rattle.dom_semantics.specs.Whitespace.{is_white_space};
 ghost use Rattle.page_text.specs.Outcomes.{Answers, Gives, IsLess, IsRest, checked};
-ghost use Rattle.page_text.specs.Scans.{before, from, stops};
+ghost use Rattle.page_text.specs.ScansModel.{before, from, stops};
 ghost use Rattle.page_text.specs.declared.tags.Attribute.{Attribute as ReadAttribute};
 ghost use Rattle.page_text.specs.Grammar as spelled;
-ghost use Rattle.page_text.specs.Values.{spells};
-ghost use Rattle.page_text.specs.Tags as spec;
+ghost use Rattle.page_text.specs.ValuesModel.{spells};
+ghost use Rattle.page_text.specs.TagsModel as spec;
 
 use crate::faults::{Failed, PageKind};
 use crate::scan::{Stop, begins_attribute, begins_space, scan, sees};
@@ -48,7 +49,7 @@ pub(crate) fn is_empty(text: &str) -> bool
     }
 }
 
-#[tactic(auto, unfolding(crate::specs::Tags::valued))]
+#[tactic(auto, unfolding(crate::specs::TagsModel::valued))]
 fn valued<'a>(
     alloc: Global,
     name: Text,
@@ -63,7 +64,7 @@ fn valued<'a>(
     Ok((Attribute { name, value }, rest))
 }
 
-#[tactic(auto, unfolding(crate::specs::Tags::quoted))]
+#[tactic(auto, unfolding(crate::specs::TagsModel::quoted))]
 fn quoted<'a>(
     alloc: Global,
     start: &'a str,
@@ -77,12 +78,12 @@ fn quoted<'a>(
 {
     let (raw, end) = scan(text, Stop::AtByte(quote));
     match eat(end, quote) {
-        None => Err(Failed::Stuck(PageKind::Unclosed, start)),
+        None => Err(Failed::Fault(PageKind::Unclosed, start)),
         Some(rest) => valued(alloc, name, raw, text, rest),
     }
 }
 
-#[tactic(auto, unfolding(crate::specs::Tags::value_at))]
+#[tactic(auto, unfolding(crate::specs::TagsModel::value_at))]
 fn value_at<'a>(
     alloc: Global,
     start: &'a str,
@@ -99,10 +100,10 @@ fn value_at<'a>(
         return quoted(alloc, start, name, b'\'', inside);
     }
     if is_empty(text) {
-        return Err(Failed::Stuck(PageKind::Unclosed, start));
+        return Err(Failed::Fault(PageKind::Unclosed, start));
     }
     if sees(b'>', text.as_bytes()) {
-        return Err(Failed::Stuck(PageKind::BadTag, text));
+        return Err(Failed::Fault(PageKind::BadTag, text));
     }
     let (raw, rest) = scan(text, Stop::AfterUnquoted);
     valued(alloc, name, raw, text, rest)
@@ -111,13 +112,13 @@ fn value_at<'a>(
 pub(crate) fn after_space(text: &str) -> &str
     ensures value { result.now ≡ spec.after_space text.now }
     ensures rest { IsRest text.now result.now }
-    ensures less { bytes_spec.begins bytes_spec.is_space text.now ≡ true → length result.now < length text.now }
+    ensures less { bytes_spec.begins is_white_space text.now ≡ true → length result.now < length text.now }
 {
     let (_, rest) = scan(text, Stop::AfterSpace);
     rest
 }
 
-#[tactic(auto, unfolding(crate::specs::Tags::named_at))]
+#[tactic(auto, unfolding(crate::specs::TagsModel::named_at))]
 fn named_at<'a>(
     alloc: Global,
     start: &'a str,
@@ -136,7 +137,7 @@ fn named_at<'a>(
     }
 }
 
-#[tactic(auto, unfolding(crate::specs::Tags::attribute_at))]
+#[tactic(auto, unfolding(crate::specs::TagsModel::attribute_at))]
 fn attribute_at<'a>(
     alloc: Global,
     start: &'a str,
@@ -150,7 +151,7 @@ fn attribute_at<'a>(
     named_at(alloc, start, name, rest)
 }
 
-#[tactic(auto, unfolding(crate::specs::Tags::slash_at))]
+#[tactic(auto, unfolding(crate::specs::TagsModel::slash_at))]
 fn slash_at<'a>(start: &'a str, text: &'a str) -> Result<(Option<Attribute>, &'a str), Failed<'a>>
     ensures value { Gives (λ x. (x.0, x.1.now)) result (spec.slash_at start.now text.now) }
     ensures rest { IfOk result (λ x. IsRest text.now x.1.now) }
@@ -159,12 +160,12 @@ fn slash_at<'a>(start: &'a str, text: &'a str) -> Result<(Option<Attribute>, &'a
         return Ok((None, rest));
     }
     if is_empty(text) {
-        return Err(Failed::Stuck(PageKind::Unclosed, start));
+        return Err(Failed::Fault(PageKind::Unclosed, start));
     }
-    Err(Failed::Stuck(PageKind::BadTag, text))
+    Err(Failed::Fault(PageKind::BadTag, text))
 }
 
-#[tactic(auto, unfolding(crate::specs::Tags::next_at))]
+#[tactic(auto, unfolding(crate::specs::TagsModel::next_at))]
 fn next_at<'a>(
     alloc: Global,
     start: &'a str,
@@ -181,13 +182,13 @@ fn next_at<'a>(
         return slash_at(start, rest);
     }
     if is_empty(here) {
-        return Err(Failed::Stuck(PageKind::Unclosed, start));
+        return Err(Failed::Fault(PageKind::Unclosed, start));
     }
     if begins_space(text.as_bytes()) && begins_attribute(here.as_bytes()) {
         let (attribute, rest) = attribute_at(alloc, start, here)?;
         return Ok((Some(attribute), rest));
     }
-    Err(Failed::Stuck(PageKind::BadTag, here))
+    Err(Failed::Fault(PageKind::BadTag, here))
 }
 
 /// An attribute more, where no earlier one has its name.
@@ -282,13 +283,13 @@ pub(crate) fn start_tag<'a>(
 }
 
 /// The name of the end tag at the front of a text, and what follows the tag.
-#[tactic(auto, unfolding(crate::specs::Tags::end_tag_at))]
+#[tactic(auto, unfolding(crate::specs::TagsModel::end_tag_at))]
 pub(crate) fn end_tag<'a>(text: &'a str) -> Result<(&'a str, &'a str), Failed<'a>>
     ensures value { Gives (λ x. (lowered x.0.now, x.1.now)) result (spec.end_tag_at text.now) }
     ensures rest { IfOk result (λ x. IsLess text.now x.1.now) }
 {
     let Some(inside) = after(text, "</") else {
-        return Err(Failed::Stuck(PageKind::BadTag, text));
+        return Err(Failed::Fault(PageKind::BadTag, text));
     };
     let (name, rest) = scan(inside, Stop::AfterName);
     let rest = after_space(rest);
@@ -296,13 +297,13 @@ pub(crate) fn end_tag<'a>(text: &'a str) -> Result<(&'a str, &'a str), Failed<'a
         return Ok((name, rest));
     }
     if is_empty(rest) {
-        return Err(Failed::Stuck(PageKind::Unclosed, text));
+        return Err(Failed::Fault(PageKind::Unclosed, text));
     }
-    Err(Failed::Stuck(PageKind::BadTag, rest))
+    Err(Failed::Fault(PageKind::BadTag, rest))
 }
 
 /// The text of the comment at the front of a text, and what follows it; `inside` follows `<!--`.
-#[tactic(auto, unfolding(crate::specs::Tags::comment_at))]
+#[tactic(auto, unfolding(crate::specs::TagsModel::comment_at))]
 pub(crate) fn comment<'a>(
     alloc: Global,
     text: &'a str,
@@ -314,14 +315,14 @@ pub(crate) fn comment<'a>(
 {
     let (raw, end) = scan(inside, Stop::AtCommentEnd);
     let Some(rest) = after(end, "-->") else {
-        return Err(Failed::Stuck(PageKind::Unclosed, text));
+        return Err(Failed::Fault(PageKind::Unclosed, text));
     };
     let data = raw_text(alloc, raw, text)?;
     Ok((data, rest))
 }
 
 /// What follows the doctype at the front of a text.
-#[tactic(auto, unfolding(crate::specs::Tags::doctype_at))]
+#[tactic(auto, unfolding(crate::specs::TagsModel::doctype_at))]
 pub(crate) fn doctype<'a>(text: &'a str) -> Result<&'a str, Failed<'a>>
     ensures value { Gives (λ x. x.now) result (spec.doctype_at text.now) }
     ensures rest { IfOk result (λ x. IsLess text.now x.now) }
@@ -329,7 +330,7 @@ pub(crate) fn doctype<'a>(text: &'a str) -> Result<&'a str, Failed<'a>>
     let (_, end) = scan(text, Stop::AtByte(b'>'));
     match eat(end, b'>') {
         Some(rest) => Ok(rest),
-        None => Err(Failed::Stuck(PageKind::Unclosed, text)),
+        None => Err(Failed::Fault(PageKind::Unclosed, text)),
     }
 }
 

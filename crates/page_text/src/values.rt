@@ -4,7 +4,7 @@ ghost use Rattle.std.specs.Prelude.{◌≡◌, ◌≢◌, ◌++◌, ℕ, [], Lis
 ghost use Rattle.page_text.specs.Bytes.{lowered};
 ghost use Rattle.page_text.specs.Outcomes.{Gives, checked};
 ghost use Rattle.std.specs.String.{string_bytes};
-ghost use Rattle.page_text.specs.Values.{Leaves, ReadsEntity, entity_at, read_value, spells, unescaped, with_line_ends};
+ghost use Rattle.page_text.specs.ValuesModel.{Leaves, ReadsEntity, entity_at, read_value, spells, unescaped, with_line_ends};
 
 use crate::faults::{Failed, PageKind};
 use crate::scan::{Stop, scan, sees};
@@ -92,7 +92,7 @@ fn checked<'a>(alloc: Global, read: &str, at: &'a str) -> Result<Text, Failed<'a
     ensures { Gives (λ t. t) result (checked read.now at.now) }
 {
     if read.len() > TEXT_LIMIT {
-        return Err(Failed::Stuck(PageKind::TooLong, at));
+        return Err(Failed::Fault(PageKind::TooLong, at));
     }
     match Text::of(alloc, read) {
         Ok(text) => Ok(text),

@@ -6,16 +6,11 @@ ghost use Rattle.page_text.specs.Nodes as nodes;
 use crate::scan::Raw;
 use crate::tags::Attribute;
 use base_text::{Mem, Text};
-use door::{Kind, List, Member, Request, Thing, Value, Values};
+use door::{DOCUMENT, Kind, List, Member, Request, Thing, Value, Values};
 use std::alloc::Global;
 
 /// Requests in order.
 pub type Requests = List<Request>;
-
-const DOCUMENT: Thing = Thing {
-    kind: Kind::Document,
-    number: 0,
-};
 
 fn element(number: u32) -> Thing
     ensures { result ≡ nodes.thing_of Kind.Element number }

@@ -17,20 +17,20 @@ use Rattle.door.specs.declared.marks.Task.{Task}
 use Rattle.door.specs.declared.marks.Task.TheVariants.{Start, Piece as PieceTask, Ready, Load, Line as LineTask, Timer as TimerTask}
 use Rattle.door.specs.declared.members.Member.{Member}
 use Rattle.solo_model.specs.Things.{the_document, the_window, thing_of}
-use Rattle.door.specs.Forest.{DEPTH_LIMIT, Form, Forest, NODE_LIMIT, Node, Tagged, form_at, is_element, new_forest, new_node, the_host}
-use Rattle.door.specs.Changes.{create_refusal, created, insert_refusal, inserted, is_empty, with_attribute}
+use Rattle.dom_semantics.specs.Forest.{DEPTH_LIMIT, Form, Forest, NODE_LIMIT, Node, Tagged, form_at, is_element, new_forest, new_node, the_host}
+use Rattle.dom_semantics.specs.Changes.{create_refusal, created, insert_refusal, inserted, is_empty, with_attribute}
 use Rattle.solo_model.specs.Closed.{Setups}
 use Rattle.solo_model.specs.Lawful.{AreBuilds, is_node, own_nodes, placed, placed_request}
-use Rattle.solo_model.specs.Stage.{Stage, built, stage_from, stage_of, start, turned}
+use Rattle.solo_model.specs.Stage.{HasRow, Stage, built, stage_from, stage_of, start, turned}
 use Rattle.small_meaning.specs.Rows.{beginning}
-use Rattle.small_meaning.specs.Stands.{Waits}
+use Rattle.small_meaning.specs.Reached.{IsWaiting}
 use Rattle.solo_model.specs.Truth.{IsGenuine}
 use Rattle.solo_model.specs.View.{is_actor, met_of, seen_of}
 use Rattle.solo_model.proofs.Journals.{builds-then, is_other, stage-more, stage_from-append}
-use Rattle.small_meaning.proofs.Standing.{stands-past}
+use Rattle.small_meaning.proofs.Reaching.{reached-past}
 use Rattle.small_eval.specs.declared.world.World.{World}
 use Rattle.small_eval.specs.Builds.{HasBuilt, HasRoom, IsMaking, IsRooted, appended, unless_told}
-use Rattle.small_eval.specs.Follows.{Adds}
+use Rattle.small_eval.specs.Continuations.{Adds}
 use Rattle.small_eval.specs.Heads.{IsHeaded}
 use Rattle.small_eval.specs.Idle.{AreIdle}
 use Rattle.small_eval.specs.Pieces.{appends, block_writes, body, creates, element_writes, head_writes, identified_writes, identifies, script_writes, text_writes, writes}
@@ -43,8 +43,8 @@ use Rattle.small_eval.proofs.Own.{host_makes, long-appended, own_known, own_late
 -- a mark that nobody but the host sees
 pub idle_past : (setups : Setups) (old new : Record) (mark : Mark) → Adds old new (mark ∷ []) → ((i : Actor) → i ≢ the_host → seen_of i (met_of i old.marks) mark ≡ []) → AreIdle setups old.marks → AreIdle setups new.marks
 idle_past setups old new mark e unseen h i guest =
-    let P : Record → Type 0 = λ r. Waits (setups i) i r.marks in
-    subst P (sym e) (stands-past (setups i) i old.marks mark beginning (unseen i guest) (h i guest))
+    let P : Record → Type 0 = λ r. IsWaiting (setups i) i r.marks in
+    subst P (sym e) (reached-past (setups i) i old.marks mark beginning (unseen i guest) (h i guest))
 
 are_one : (before : List Mark) (f : Forest) (request : Request) → f ≡ (stage_of before).nodes → AreBuilds before (request ∷ []) (Build (placed_request f request) ∷ [])
 unfolding AreBuilds
@@ -106,9 +106,9 @@ own_created f form = numbers-append 0 the_host f (new_node the_host form) ∙ ap
     plain = omega arith
 
 -- the host makes a node
-pub ready_created : (old new : World) (request : Request) (form : Form) → IsSound old → IsMaking request form → create_refusal old.tree the_host ≡ None → new.journal ≡ old.journal → new.events ≡ old.events → new.tree ≡ created old.tree the_host form
+pub ready_created : (old new : World) (request : Request) (form : Form) → IsSound old → HasRow request → IsMaking request form → create_refusal old.tree the_host ≡ None → new.journal ≡ old.journal → new.events ≡ old.events → new.tree ≡ created old.tree the_host form
     → new.own.items ≡ old.own.items ++ length old.tree ∷ [] → IsReady new (Build request)
-ready_created old new request form s makes may journal events tree own =
+ready_created old new request form s row makes may journal events tree own =
     let P : Record → Type 0 = λ j. new.tree ≡ (built (stage_of j.marks) request).nodes in
     let Q : Record → Type 0 = λ j. new.events ≡ length (built (stage_of j.marks) request).events in
     let G : Record → Type 0 = λ j. IsGenuine j.marks in
@@ -118,7 +118,7 @@ ready_created old new request form s makes may journal events tree own =
     let more : length new.tree ≡ length old.tree + 1 = ap (λ (f : Forest). length f) tree ∙ length-append old.tree (new_node the_host form ∷ []) in
     record {
       genuine = subst G (sym journal) s.genuine;
-      truth = tt;
+      truth = row;
       nodes = subst P (sym journal) (tree ∙ ap (λ (f : Forest). created f the_host form) s.nodes ∙ ap (λ (g : Stage). g.nodes) (sym now));
       own = own ∙ ap (λ ns. ns ++ length old.tree ∷ []) s.own ∙ sym (own_created old.tree form) ∙ ap own_nodes (sym tree);
       events = subst Q (sym journal) (events ∙ s.events ∙ ap (λ (g : Stage). length g.events) (sym now));
@@ -126,9 +126,9 @@ ready_created old new request form s makes may journal events tree own =
     }
 
 -- the stage after a request of the host that changes the nodes alone
-ready_nodes : (old new : World) (request : Request) (f : Forest) → IsSound old → ((s : Stage) → old.tree ≡ s.nodes → (f ≡ (built s request).nodes) × (length (built s request).events ≡ length s.events)) → new.journal ≡ old.journal → new.events ≡ old.events → new.tree ≡ f → new.own ≡ old.own
+ready_nodes : (old new : World) (request : Request) (f : Forest) → HasRow request → IsSound old → ((s : Stage) → old.tree ≡ s.nodes → (f ≡ (built s request).nodes) × (length (built s request).events ≡ length s.events)) → new.journal ≡ old.journal → new.events ≡ old.events → new.tree ≡ f → new.own ≡ old.own
     → own_nodes f ≡ own_nodes old.tree → length f ≡ length old.tree → IsReady new (Build request)
-ready_nodes old new request f s is journal events tree own same long =
+ready_nodes old new request f row s is journal events tree own same long =
     let P : Record → Type 0 = λ j. new.tree ≡ (built (stage_of j.marks) request).nodes in
     let Q : Record → Type 0 = λ j. new.events ≡ length (built (stage_of j.marks) request).events in
     let G : Record → Type 0 = λ j. IsGenuine j.marks in
@@ -137,7 +137,7 @@ ready_nodes old new request f s is journal events tree own same long =
     let many : length new.tree ≡ length f = ap (λ (g : Forest). length g) tree in
     record {
       genuine = subst G (sym journal) s.genuine;
-      truth = tt;
+      truth = row;
       nodes = subst P (sym journal) (tree ∙ now.0);
       own = ap (λ v. v.items) own ∙ s.own ∙ sym same ∙ ap own_nodes (sym tree);
       events = subst Q (sym journal) (events ∙ s.events ∙ sym now.1);
@@ -148,7 +148,7 @@ ready_nodes old new request f s is journal events tree own same long =
 pub ready_appended : (old new : World) (parent child : Thing) → IsSound old → new.journal ≡ old.journal → new.events ≡ old.events → new.tree ≡ appended old.tree parent.number child.number → new.own ≡ old.own
     → IsReady new (Build (Native NodeAppendChild parent (ThingValue child ∷ [])))
 ready_appended old new parent child s journal events tree own =
-    ready_nodes old new (Native NodeAppendChild parent (ThingValue child ∷ [])) (appended old.tree parent.number child.number) s is journal events tree own (own-appended old.tree parent.number child.number) (long-appended old.tree parent.number child.number)
+    ready_nodes old new (Native NodeAppendChild parent (ThingValue child ∷ [])) (appended old.tree parent.number child.number) tt s is journal events tree own (own-appended old.tree parent.number child.number) (long-appended old.tree parent.number child.number)
   where
     one : (g : Stage) (r : Option ErrorKind) → insert_refusal g.nodes parent.number child.number None ≡ r → (appended g.nodes parent.number child.number ≡ (built g (Native NodeAppendChild parent (ThingValue child ∷ []))).nodes) × (length (built g (Native NodeAppendChild parent (ThingValue child ∷ []))).events ≡ length g.events)
     one g None e = rw e (refl, refl)
@@ -163,7 +163,7 @@ ready_appended old new parent child s journal events tree own =
 pub ready_attribute : (old new : World) (thing : Thing) (name value : List ℕ) → IsSound old → new.journal ≡ old.journal → new.events ≡ old.events → new.tree ≡ with_attribute old.tree thing.number name value → new.own ≡ old.own
     → IsReady new (Build (Native ElementSetAttribute thing (Str name ∷ (Str value ∷ []))))
 ready_attribute old new thing name value s journal events tree own =
-    ready_nodes old new (Native ElementSetAttribute thing (Str name ∷ (Str value ∷ []))) (with_attribute old.tree thing.number name value) s (λ g e. (ap (λ (f : Forest). with_attribute f thing.number name value) e, refl)) journal events tree own
+    ready_nodes old new (Native ElementSetAttribute thing (Str name ∷ (Str value ∷ []))) (with_attribute old.tree thing.number name value) tt s (λ g e. (ap (λ (f : Forest). with_attribute f thing.number name value) e, refl)) journal events tree own
     (own-attribute old.tree thing.number name value) (simp length-set refl)
 
 -- the title element stays
@@ -213,18 +213,18 @@ head_built old new title nodes first h =
 placed_number : (f : Forest) (thing : Thing) → is_node thing.kind ≡ true → (placed f thing).number ≡ slice_index_or (own_nodes f) thing.number (length f)
 placed_number f thing e = rw e refl
 
-pub placed_known : (w : World) (thing there : Thing) → IsSound w → IsTrue (is_node thing.kind) → thing.number < length w.own.items → there ≡ placed w.tree thing → there.number < length w.tree
-placed_known w thing there s node less e =
-    let at : there.number ≡ slice_index_or (own_nodes w.tree) thing.number (length w.tree) = ap (λ (t : Thing). t.number) e ∙ placed_number w.tree thing node in
+pub placed_known : (world : World) (thing there : Thing) → IsSound world → IsTrue (is_node thing.kind) → thing.number < length world.own.items → there ≡ placed world.tree thing → there.number < length world.tree
+placed_known world thing there s node less e =
+    let at : there.number ≡ slice_index_or (own_nodes world.tree) thing.number (length world.tree) = ap (λ (t : Thing). t.number) e ∙ placed_number world.tree thing node in
     let fits = subst (λ (ns : List ℕ). thing.number < length ns) s.own less in
-    let known = own_known 0 the_host w.tree thing.number (length w.tree) fits in
+    let known = own_known 0 the_host world.tree thing.number (length world.tree) fits in
     omega (arith, at, known)
 
-pub placed_late : (w : World) (thing there : Thing) → IsSound w → IsTrue (is_node thing.kind) → thing.number < length w.own.items → there ≡ placed w.tree thing → 3 < thing.number → 3 < there.number
-placed_late w thing there s node less e late =
-    let at : there.number ≡ slice_index_or (own_nodes w.tree) thing.number (length w.tree) = ap (λ (t : Thing). t.number) e ∙ placed_number w.tree thing node in
+pub placed_late : (world : World) (thing there : Thing) → IsSound world → IsTrue (is_node thing.kind) → thing.number < length world.own.items → there ≡ placed world.tree thing → 3 < thing.number → 3 < there.number
+placed_late world thing there s node less e late =
+    let at : there.number ≡ slice_index_or (own_nodes world.tree) thing.number (length world.tree) = ap (λ (t : Thing). t.number) e ∙ placed_number world.tree thing node in
     let fits = subst (λ (ns : List ℕ). thing.number < length ns) s.own less in
-    let later = own_late 0 the_host w.tree thing.number (length w.tree) fits in
+    let later = own_late 0 the_host world.tree thing.number (length world.tree) fits in
     omega (arith, at, later, late)
 
 -- the requests as they stand in the journal
@@ -234,13 +234,13 @@ append_told f parent child p q arguments e d a = ap (λ xs. Native NodeAppendChi
 placed_document : (f : Forest) → IsRooted (own_nodes f) → placed f the_document ≡ the_document
 placed_document f (rest, e) = ap (λ ns. thing_of Document (slice_index_or ns 0 (length f))) e
 
-pub create_told : (w : World) (member : Member) (text : List ℕ) (arguments : List Value) → IsSound w → IsRooted w.own.items → arguments ≡ Str text ∷ [] → Native member the_document arguments ≡ placed_request w.tree (Native member the_document (Str text ∷ []))
-create_told w member text arguments s rooted a =
-    ap (λ xs. Native member the_document xs) a ∙ ap (λ x. Native member x (Str text ∷ [])) (sym (placed_document w.tree (subst IsRooted s.own rooted)))
+pub create_told : (world : World) (member : Member) (text : List ℕ) (arguments : List Value) → IsSound world → IsRooted world.own.items → arguments ≡ Str text ∷ [] → Native member the_document arguments ≡ placed_request world.tree (Native member the_document (Str text ∷ []))
+create_told world member text arguments s rooted a =
+    ap (λ xs. Native member the_document xs) a ∙ ap (λ x. Native member x (Str text ∷ [])) (sym (placed_document world.tree (subst IsRooted s.own rooted)))
 
 -- the journal after a mark, where the document changed before
 pub adds_through : (old mid new : World) (mark : Mark) → mid.journal ≡ old.journal → new ≡ record mid { journal = record mid.journal { marks = mid.journal.marks ++ mark ∷ [] } } → Adds old.journal new.journal (mark ∷ [])
-adds_through old mid new mark m e = ap (λ (w : World). w.journal) e ∙ ap (λ (j : Record). record j { marks = j.marks ++ mark ∷ [] }) m
+adds_through old mid new mark m e = ap (λ (world : World). world.journal) e ∙ ap (λ (j : Record). record j { marks = j.marks ++ mark ∷ [] }) m
 
 -- a text that is read, and a number that is known
 pub element_built : (a b d : World) (n m : ℕ) (tag t : List ℕ) (parent : Thing) → t ≡ tag → m ≡ n → HasBuilt (creates t ∷ []) 1 a b → HasBuilt (appends parent (thing_of Element m) ∷ []) 0 b d → HasBuilt (element_writes n tag parent) 1 a d
@@ -255,16 +255,16 @@ text_built a b d n m text parent f h k =
     subst Q f (built_then a b d (writes text ∷ []) (appends parent (thing_of StrKind m) ∷ []) 1 0 h k)
 
 -- the host may make a node more
-pub host_may : (w : World) (a b : ℕ) → HasRoom a b w → 1 ≤ b → create_refusal w.tree the_host ≡ None
-host_may w a b h some = let same : length w.own.items ≡ length (own_nodes w.tree) = ap (λ (ns : List ℕ). length ns) h.sound.own in host_makes w.tree (omega (arith, same, h.few, some))
+pub host_may : (world : World) (a b : ℕ) → HasRoom a b world → 1 ≤ b → create_refusal world.tree the_host ≡ None
+host_may world a b h some = let same : length world.own.items ≡ length (own_nodes world.tree) = ap (λ (ns : List ℕ). length ns) h.sound.own in host_makes world.tree (omega (arith, same, h.few, some))
 
 -- before the first mark
-pub sound_new : (w : World) → w.journal.marks ≡ [] → w.tree ≡ new_forest → w.own.items ≡ 0 ∷ [] → w.events ≡ 0 → IsSound w
+pub sound_new : (world : World) → world.journal.marks ≡ [] → world.tree ≡ new_forest → world.own.items ≡ 0 ∷ [] → world.events ≡ 0 → IsSound world
 unfolding stage_from
-sound_new w marks tree own events =
-    let P : List Mark → Type 0 = λ ms. w.tree ≡ (stage_of ms).nodes in
-    let Q : List Mark → Type 0 = λ ms. w.events ≡ length (stage_of ms).events in
-    let long : length w.tree ≡ 1 = ap (λ (f : Forest). length f) tree in
+sound_new world marks tree own events =
+    let P : List Mark → Type 0 = λ ms. world.tree ≡ (stage_of ms).nodes in
+    let Q : List Mark → Type 0 = λ ms. world.events ≡ length (stage_of ms).events in
+    let long : length world.tree ≡ 1 = ap (λ (f : Forest). length f) tree in
     record { genuine = subst IsGenuine (sym marks) tt; nodes = subst P (sym marks) tree; own = own ∙ ap own_nodes (sym tree); events = subst Q (sym marks) events; few = omega (arith, long) }
 
 -- a turn begins
@@ -284,13 +284,13 @@ still_events s Load = refl
 still_events s (LineTask n) = refl
 still_events s (TimerTask i n) = refl
 
-pub ready_turn : (w : World) (task : Task) → IsSound w → IsReady w (Turn task)
-ready_turn w task s = record {
+pub ready_turn : (world : World) (task : Task) → IsSound world → IsReady world (Turn task)
+ready_turn world task s = record {
   genuine = s.genuine;
   truth = tt;
-  nodes = s.nodes ∙ sym (still_nodes (stage_of w.journal.marks) task);
+  nodes = s.nodes ∙ sym (still_nodes (stage_of world.journal.marks) task);
   own = s.own;
-  events = s.events ∙ ap (λ es. length es) (sym (still_events (stage_of w.journal.marks) task));
+  events = s.events ∙ ap (λ es. length es) (sym (still_events (stage_of world.journal.marks) task));
   few = omega (arith, s.few);
 }
 
@@ -317,9 +317,9 @@ identified_built a b d e n m tag t id u parent p q f h i k =
     subst Q f (subst R q (subst P p (built_then a b e (creates t ∷ []) (identifies m u ∷ (appends parent (thing_of Element m) ∷ [])) 1 0 h rest)))
 
 -- nothing was built
-pub built_none : (w : World) → IsSound w → HasBuilt [] 0 w w
+pub built_none : (world : World) → IsSound world → HasBuilt [] 0 world world
 unfolding AreBuilds
-built_none w s = record { sound = s; marks = ([], ap (λ xs. record w.journal { marks = xs }) (sym (append-nil w.journal.marks)), refl, refl); own = ([], sym (append-nil w.own.items), refl); idle = λ setups h. h }
+built_none world s = record { sound = s; marks = ([], ap (λ xs. record world.journal { marks = xs }) (sym (append-nil world.journal.marks)), refl, refl); own = ([], sym (append-nil world.own.items), refl); idle = λ setups h. h }
 
 pub own_built : (old new : World) (requests : List Request) (nodes : ℕ) → HasBuilt requests nodes old new → length new.own.items ≡ length old.own.items + nodes
 own_built old new requests nodes k = let many : length new.own.items ≡ length old.own.items + length k.own.0 = ap (λ (xs : List ℕ). length xs) k.own.1 ∙ length-append old.own.items k.own.0 in omega (arith, many, k.own.2)
@@ -379,8 +379,8 @@ bare_told (x ∷ text) h = absurd (omega (arith, h))
 pub room_left : (old new : World) (requests : List Request) (nodes a b k m n : ℕ) → HasRoom a b old → HasBuilt requests nodes old new → length requests ≡ k → k + m ≤ a → nodes + n ≤ b → HasRoom m n new
 room_left old new requests nodes a b k m n h built e less fewer = room_after old new requests nodes a b m n h built (omega (arith, e, less)) fewer
 
-pub room_less : (w : World) (a b m n : ℕ) → HasRoom a b w → m ≤ a → n ≤ b → HasRoom m n w
-room_less w a b m n h less fewer = record { sound = h.sound; rooted = h.rooted; room = omega (arith, h.room, less); limit = h.limit; few = omega (arith, h.few, fewer) }
+pub room_less : (world : World) (a b m n : ℕ) → HasRoom a b world → m ≤ a → n ≤ b → HasRoom m n world
+room_less world a b m n h less fewer = record { sound = h.sound; rooted = h.rooted; room = omega (arith, h.room, less); limit = h.limit; few = omega (arith, h.few, fewer) }
 
 -- how a journal grows
 pub adds_long : (old new : Record) (marks : List Mark) → Adds old new marks → length new.marks ≡ length old.marks + length marks

@@ -11,7 +11,7 @@ use Rattle.door.specs.declared.requests.Request.TheVariants.{Native, Peek, PeekK
 use Rattle.door.specs.declared.requests.ErrorKind.{ErrorKind}
 use Rattle.door.specs.declared.marks.Mark.{Mark}
 use Rattle.door.specs.declared.marks.Mark.TheVariants.{Turn, Build, Enter, Ask, Dispatch, Back, Leave, Serve, Served}
-use Rattle.door.specs.Forest.{the_host}
+use Rattle.dom_semantics.specs.Forest.{the_host}
 use Rattle.solo_model.specs.Stage.{Event, Stage, after, changed, is_refusal, refusal, stage_from, stage_of, start, unless_refused}
 use Rattle.small_eval.proofs.Building.{still_events}
 
@@ -125,7 +125,16 @@ changed_events i s DocumentCreateTextNode thing ((StrValue t0) ∷ (v1 ∷ vs)) 
 changed_events i s DocumentCreateTextNode thing ((ThingValue t0) ∷ vs) = no_more s.events
 changed_events i s DocumentCreateTextNode thing ((WaivedThing t0) ∷ vs) = no_more s.events
 changed_events i s DocumentCreateTextNode thing ((Cell o0 p0 h0 w0) ∷ vs) = no_more s.events
-changed_events i s DocumentCreateComment thing vs = no_more s.events
+changed_events i s DocumentCreateComment thing [] = no_more s.events
+changed_events i s DocumentCreateComment thing (Undefined ∷ vs) = no_more s.events
+changed_events i s DocumentCreateComment thing (Null ∷ vs) = no_more s.events
+changed_events i s DocumentCreateComment thing ((BoolValue b0) ∷ vs) = no_more s.events
+changed_events i s DocumentCreateComment thing ((NumberValue n0) ∷ vs) = no_more s.events
+changed_events i s DocumentCreateComment thing ((StrValue t0) ∷ []) = no_more s.events
+changed_events i s DocumentCreateComment thing ((StrValue t0) ∷ (v1 ∷ vs)) = no_more s.events
+changed_events i s DocumentCreateComment thing ((ThingValue t0) ∷ vs) = no_more s.events
+changed_events i s DocumentCreateComment thing ((WaivedThing t0) ∷ vs) = no_more s.events
+changed_events i s DocumentCreateComment thing ((Cell o0 p0 h0 w0) ∷ vs) = no_more s.events
 changed_events i s DocumentGetElementById thing vs = no_more s.events
 changed_events i s NewEvent thing [] = no_more s.events
 changed_events i s NewEvent thing (Undefined ∷ vs) = no_more s.events

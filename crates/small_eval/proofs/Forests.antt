@@ -7,11 +7,12 @@ use Rattle.std.proofs.lemmas.Str.Ascii.{encodes-IsAscii, IsAscii-nil, IsAscii-co
 use Rattle.std.proofs.Math.Seq.{drop-cons}
 use Rattle.std.proofs.Math.ListN.{drop_of_length-le}
 use Rattle.base_text.specs.Scalars.{bytes_eq-encoded}
-use Rattle.door.specs.Forest.{Form, Forest, DEPTH_LIMIT, children_of, form_at, in_order, is_tagged, tree_order}
+use Rattle.dom_semantics.specs.Forest.{Form, Forest, DEPTH_LIMIT, children_of, form_at, in_order, is_tagged, tree_order}
 use Rattle.dom_tree.specs.Forms.{form_of}
+use Rattle.dom_tree.specs.declared.limits.TheConstants.{TREE_LEVELS}
 use Rattle.dom_tree.specs.declared.form.NodeForm.{NodeForm}
 use Rattle.dom_tree.specs.declared.form.NodeForm.TheVariants.{Element}
-use Rattle.solo_model.specs.Titles.{first_tagged, first_that}
+use Rattle.dom_semantics.specs.Titles.{first_tagged, first_that}
 
 title_ascii : encode_utf8_all (codes "title") ≡ codes "title"
 title_ascii = encodes-IsAscii (codes "title") (IsAscii-cons 116 (codes "itle") (omega arith) (IsAscii-cons 105 (codes "tle") (omega arith) (IsAscii-cons 116 (codes "le") (omega arith) (IsAscii-cons 108 (codes "e") (omega arith) (IsAscii-cons 101 [] (omega arith) IsAscii-nil)))))
@@ -61,6 +62,6 @@ pub nothing_below : (levels : ℕ) (f : Forest) (children : List ℕ) (at : ℕ)
 nothing_below levels f children at h = ap (title_below levels f) (drop_of_length-le children h)
 
 -- the whole tree
-pub title_root : (f : Forest) → first_tagged (codes "title") f (in_order 257 f 0) ≡ first_tagged (codes "title") f (tree_order f 0)
+pub title_root : (f : Forest) → first_tagged (codes "title") f (in_order TREE_LEVELS f 0) ≡ first_tagged (codes "title") f (tree_order f 0)
 unfolding DEPTH_LIMIT
 title_root f = refl

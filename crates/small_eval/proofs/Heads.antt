@@ -3,10 +3,10 @@ use Rattle.std.proofs.Common.{◌≡◌, ◌≢◌, ◌∙◌, ap, sym, refl, su
 use Prim.Native.Nat.{suc}
 use Rattle.std.proofs.lemmas.Bool.Decides.{nat_tests}
 use Rattle.door.specs.declared.values.Actor.{Actor}
-use Rattle.door.specs.Forest.{DEPTH_LIMIT, Form, Root, Tagged, Written, Noted, Forest, Node, children_of, form_at, is_tagged, new_node, node_at}
-use Rattle.door.specs.Changes.{created, inserted, is_empty, placed, removed, with_children, with_text, without}
+use Rattle.dom_semantics.specs.Forest.{DEPTH_LIMIT, Form, Root, Tagged, Written, Noted, Forest, Node, children_of, form_at, is_tagged, new_node, node_at}
+use Rattle.dom_semantics.specs.Changes.{created, inserted, is_empty, placed, removed, with_children, with_text, without}
 use Rattle.dom_tree.proofs.NodeLemmas.{length-removed, node_at-pushed_other, node_at-removed, node_at-set_other, node_at-set_same}
-use Rattle.solo_model.specs.Titles.{title_element}
+use Rattle.dom_semantics.specs.Titles.{title_element}
 use Rattle.solo_model.specs.Lawful.{numbers_from}
 use Rattle.small_eval.specs.Heads.{IsHeaded}
 

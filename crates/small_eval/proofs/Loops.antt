@@ -10,15 +10,17 @@ use Rattle.door.specs.declared.marks.Mark.{Mark}
 use Rattle.door.specs.declared.marks.Mark.TheVariants.{Turn}
 use Rattle.door.specs.declared.marks.Task.{Task}
 use Rattle.door.specs.declared.marks.Task.TheVariants.{Start, Piece as PieceTask}
-use Rattle.door.specs.Changes.{is_empty}
+use Rattle.dom_semantics.specs.Changes.{is_empty}
 use Rattle.small_forms.specs.declared.page.Page.{Page}
 use Rattle.solo_model.specs.Closed.{Setups}
 use Rattle.solo_model.specs.Lawful.{AreTurns, Input, Piece, numbered}
 use Rattle.solo_model.specs.Stage.{stage_from, stage_of, start}
 use Rattle.solo_model.specs.Things.{the_page, userscript}
+use Rattle.door.specs.declared.limits.TheConstants.{MARK_LIMIT, USERSCRIPT_LIMIT}
+use Rattle.small_eval.specs.Bounds.{LOAD_MARKS, PAGE_MARKS, PAGE_NODES, PAGE_SCRIPTS, SCRIPT_MARKS, START_MARKS}
 use Rattle.small_eval.specs.declared.world.World.{World}
 use Rattle.small_eval.specs.Builds.{HasBuilt, HasRoom, IsRooted}
-use Rattle.small_eval.specs.Follows.{Adds}
+use Rattle.small_eval.specs.Continuations.{Adds}
 use Rattle.small_eval.specs.Heads.{IsHeaded}
 use Rattle.small_eval.specs.Idle.{AreIdle}
 use Rattle.small_eval.specs.Pieces.{after_blocks, after_script, block_writes, head_writes, pieces_of, script_writes}
@@ -32,7 +34,7 @@ begun_of page = head_writes page.title ++ block_writes page.blocks
 
 -- at the piece of this number, whose script element comes next
 pub record AtPiece (page : Page) (k : ℕ) (first now : World) : Type 0 where
-  pub going : IsGoing (50 + 200010 * k) (8 + 2 * k) now
+  pub going : IsGoing (50 + SCRIPT_MARKS * k) (8 + 2 * k) now
   pub own : length now.own.items ≡ number_at (after_blocks page.blocks) k page.scripts
   pub lawful : (input : Input) → input.pieces ≡ pieces_of page → IsBuilding input (tasks_from PieceTask 0 k) k (begun_at (begun_of page) k) now.journal.marks
   pub idle : (setups : Setups) → (setups the_page).zone ≡ PageZone → AreIdle setups first.journal.marks → AreIdle setups now.journal.marks
@@ -57,8 +59,8 @@ blocks_late false = omega arith
 pub body_stands : (page : Page) (k : ℕ) (first now : World) → AtPiece page k first now → 5 < length now.own.items
 body_stands page k first now h = let late = number_late (after_blocks page.blocks) k page.scripts in let six = blocks_late page.blocks in omega (arith, late, six, h.own)
 
-pub piece_room : (page : Page) (k : ℕ) (first now : World) → AtPiece page k first now → k < 4 → HasRoom 200010 2 now
-piece_room page k first now h less = room_going now (50 + 200010 * k) (8 + 2 * k) 200010 2 h.going (omega (arith, less)) (omega (arith, less))
+pub piece_room : (page : Page) (k : ℕ) (first now : World) → AtPiece page k first now → k < PAGE_SCRIPTS → HasRoom SCRIPT_MARKS 2 now
+piece_room page k first now h less = room_going now (50 + SCRIPT_MARKS * k) (8 + 2 * k) SCRIPT_MARKS 2 h.going (omega (arith, less)) (omega (arith, less))
 
 script_more : (text : List ℕ) → script_nodes text ≤ 2
 script_more text = by (is_empty text) refl
@@ -68,18 +70,18 @@ script_more text = by (is_empty text) refl
     by false e = rw e (omega arith)
 
 -- a piece ends, and the next begins
-pub piece_step : (page : Page) (k : ℕ) (first old new : World) (text : List ℕ) → AtPiece page k first old → k < length page.scripts → text ≡ slice_index_or page.scripts k [] → HasGone 200010 (script_nodes text) old new → IsHeaded new.tree
+pub piece_step : (page : Page) (k : ℕ) (first old new : World) (text : List ℕ) → AtPiece page k first old → k < length page.scripts → text ≡ slice_index_or page.scripts k [] → HasGone SCRIPT_MARKS (script_nodes text) old new → IsHeaded new.tree
     → ((input : Input) (tasks : List Task) (begun : List Request) → IsBuilding input tasks k begun old.journal.marks → slice_get input.pieces k ≡ Some (record { writes = begun ++ script_writes (length old.own.items) text; script = Some text }) → IsBuilding input (tasks ++ PieceTask k ∷ []) (k + 1) [] new.journal.marks)
     → ((setups : Setups) → (setups the_page).zone ≡ PageZone → AreIdle setups old.journal.marks → AreIdle setups new.journal.marks) → AtPiece page (k + 1) first new
 piece_step page k first old new text h less is gone headed lawful idle =
     let n = after_blocks page.blocks in
     let next : k + 1 ≡ suc k = omega arith in
-    let more = own_long old new 200010 (script_nodes text) gone in
+    let more = own_long old new SCRIPT_MARKS (script_nodes text) gone in
     let step : number_at n (k + 1) page.scripts ≡ after_script (number_at n k page.scripts) text = ap (λ j. number_at n j page.scripts) next ∙ number_next n k page.scripts less ∙ ap (after_script (number_at n k page.scripts)) (sym is) in
     let nodes = after_nodes (number_at n k page.scripts) text in
     let few = script_more text in
     record {
-      going = going_more old new (50 + 200010 * k) (8 + 2 * k) 200010 (script_nodes text) (50 + 200010 * (k + 1)) (8 + 2 * (k + 1)) h.going gone headed (omega arith) (omega (arith, few));
+      going = going_more old new (50 + SCRIPT_MARKS * k) (8 + 2 * k) SCRIPT_MARKS (script_nodes text) (50 + SCRIPT_MARKS * (k + 1)) (8 + 2 * (k + 1)) h.going gone headed (omega arith) (omega (arith, few));
       own = omega (arith, more, step, nodes, h.own);
       lawful = λ input e. now input e next;
       idle = λ setups zone s. idle setups zone (h.idle setups zone s);
@@ -111,37 +113,37 @@ block_few false = none
     none = omega arith
 
 -- the first turn has begun
-pub pieces_room : (first w : World) → first.journal ≡ record { marks = []; limit = 4000000 } → first.own.items ≡ 0 ∷ [] → IsSound w → w.own ≡ first.own → Adds first.journal w.journal (Turn (PieceTask 0) ∷ []) → HasRoom 100 10 w
-pieces_room first w e own s same adds =
-    let gone = gone_none first w 1 s same (Turn (PieceTask 0) ∷ []) adds (omega arith) in
+pub pieces_room : (first world : World) → first.journal ≡ record { marks = []; limit = MARK_LIMIT } → first.own.items ≡ 0 ∷ [] → IsSound world → world.own ≡ first.own → Adds first.journal world.journal (Turn (PieceTask 0) ∷ []) → HasRoom 100 10 world
+pieces_room first world e own s same adds =
+    let gone = gone_none first world 1 s same (Turn (PieceTask 0) ∷ []) adds (omega arith) in
     let none : length first.journal.marks ≡ 0 = ap (λ (r : Record). length r.marks) e in
-    let limit : first.journal.limit ≡ 4000000 = ap (λ (r : Record). r.limit) e in
-    let items : w.own.items ≡ 0 ∷ [] = ap (λ v. v.items) same ∙ own in
-    let one : length w.own.items ≡ 1 = ap (λ (xs : List ℕ). length xs) items in
+    let limit : first.journal.limit ≡ MARK_LIMIT = ap (λ (r : Record). r.limit) e in
+    let items : world.own.items ≡ 0 ∷ [] = ap (λ v. v.items) same ∙ own in
+    let one : length world.own.items ≡ 1 = ap (λ (xs : List ℕ). length xs) items in
     record { sound = s; rooted = ([], items); room = omega (arith, gone.long, gone.limit, none, limit); limit = omega (arith, gone.limit, limit); few = omega (arith, one) }
 
-pub pieces_start : (first w : World) → first.journal ≡ record { marks = []; limit = 4000000 } → Adds first.journal w.journal (Turn (PieceTask 0) ∷ []) → stage_of w.journal.marks ≡ start
+pub pieces_start : (first world : World) → first.journal ≡ record { marks = []; limit = MARK_LIMIT } → Adds first.journal world.journal (Turn (PieceTask 0) ∷ []) → stage_of world.journal.marks ≡ start
 unfolding stage_from
-pieces_start first w e adds = ap (λ (r : Record). stage_of r.marks) adds ∙ ap (λ (r : Record). stage_of (r.marks ++ Turn (PieceTask 0) ∷ [])) e
+pieces_start first world e adds = ap (λ (r : Record). stage_of r.marks) adds ∙ ap (λ (r : Record). stage_of (r.marks ++ Turn (PieceTask 0) ∷ [])) e
 
-pub pieces_own : (first w : World) → first.own.items ≡ 0 ∷ [] → w.own ≡ first.own → length w.own.items ≡ 1
-pieces_own first w own same = ap (λ v. length v.items) same ∙ ap (λ (xs : List ℕ). length xs) own
+pub pieces_own : (first world : World) → first.own.items ≡ 0 ∷ [] → world.own ≡ first.own → length world.own.items ≡ 1
+pieces_own first world own same = ap (λ v. length v.items) same ∙ ap (λ (xs : List ℕ). length xs) own
 
 no_turns : (input : Input) (marks : List Mark) → marks ≡ [] → AreTurns input [] [] marks
 unfolding AreTurns
 no_turns input marks e = e
 
 -- the head and the blocks are built
-pub pieces_begun : (page : Page) (first w x y : World) → first.journal ≡ record { marks = []; limit = 4000000 } → first.own.items ≡ 0 ∷ [] → IsSound w → w.own ≡ first.own → Adds first.journal w.journal (Turn (PieceTask 0) ∷ [])
-    → ((setups : Setups) → AreIdle setups first.journal.marks → AreIdle setups w.journal.marks) → HasBuilt (head_writes page.title) 5 w x → HasBuilt (block_writes page.blocks) (block_nodes page.blocks) x y → IsHeaded y.tree → AtPiece page 0 first y
-pieces_begun page first w x y e own s same adds idle head blocks headed =
-    let gone = gone_none first w 1 s same (Turn (PieceTask 0) ∷ []) adds (omega arith) in
+pub pieces_begun : (page : Page) (first world x y : World) → first.journal ≡ record { marks = []; limit = MARK_LIMIT } → first.own.items ≡ 0 ∷ [] → IsSound world → world.own ≡ first.own → Adds first.journal world.journal (Turn (PieceTask 0) ∷ [])
+    → ((setups : Setups) → AreIdle setups first.journal.marks → AreIdle setups world.journal.marks) → HasBuilt (head_writes page.title) 5 world x → HasBuilt (block_writes page.blocks) (block_nodes page.blocks) x y → IsHeaded y.tree → AtPiece page 0 first y
+pieces_begun page first world x y e own s same adds idle head blocks headed =
+    let gone = gone_none first world 1 s same (Turn (PieceTask 0) ∷ []) adds (omega arith) in
     let none : length first.journal.marks ≡ 0 = ap (λ (r : Record). length r.marks) e in
-    let limit : first.journal.limit ≡ 4000000 = ap (λ (r : Record). r.limit) e in
-    let one = gone_built w x (head_writes page.title) 5 10 head (head_few page.title) in
+    let limit : first.journal.limit ≡ MARK_LIMIT = ap (λ (r : Record). r.limit) e in
+    let one = gone_built world x (head_writes page.title) 5 10 head (head_few page.title) in
     let two = gone_built x y (block_writes page.blocks) (block_nodes page.blocks) 6 blocks (block_few page.blocks) in
-    let single = pieces_own first w own same in
-    let six = own_long w x 10 5 one in
+    let single = pieces_own first world own same in
+    let six = own_long world x 10 5 one in
     let more = own_long x y 6 (block_nodes page.blocks) two in
     let count = nodes page.blocks in
     let few = most page.blocks in
@@ -155,7 +157,7 @@ pieces_begun page first w x y e own s same adds idle head blocks headed =
         few = omega (arith, single, six, more, few);
       };
       own = omega (arith, single, six, more, count);
-      lawful = λ input f. piece_more input [] 0 (head_writes page.title) (block_writes page.blocks) (block_nodes page.blocks) x y (piece_more input [] 0 [] (head_writes page.title) 5 w x (piece_begun input [] 0 first.journal w.journal (empty input) adds) head) blocks;
+      lawful = λ input f. piece_more input [] 0 (head_writes page.title) (block_writes page.blocks) (block_nodes page.blocks) x y (piece_more input [] 0 [] (head_writes page.title) 5 world x (piece_begun input [] 0 first.journal world.journal (empty input) adds) head) blocks;
       idle = λ setups zone h. blocks.idle setups (head.idle setups (idle setups h));
     }
   where
@@ -167,7 +169,7 @@ pieces_begun page first w x y e own s same adds idle head blocks headed =
     most true = omega arith
     most false = omega arith
 
-    root : HasGone 10 5 w x → HasGone 6 (block_nodes page.blocks) x y → IsRooted y.own.items
+    root : HasGone 10 5 world x → HasGone 6 (block_nodes page.blocks) x y → IsRooted y.own.items
     root p q = (p.own.0 ++ q.own.0, q.own.1 ∙ ap (λ ns. ns ++ q.own.0) (p.own.1 ∙ ap (λ ns. ns ++ p.own.0) (ap (λ v. v.items) same ∙ own)))
 
     empty : (input : Input) → AreTurns input [] [] first.journal.marks
@@ -186,27 +188,27 @@ pieces_ended page k first now h all input e =
     let tasks : numbered PieceTask 0 input.pieces ≡ tasks_from PieceTask 0 k ++ PieceTask k ∷ [] = numbered_all PieceTask 0 input.pieces ∙ ap (tasks_from PieceTask 0) count ∙ tasks_next PieceTask k in
     subst P (sym tasks) (subst Q (append-nil now.journal.marks) done)
 
-pub pieces_going : (page : Page) (k : ℕ) (first now : World) → AtPiece page k first now → k ≤ 4 → IsGoing 800100 20 now
+pub pieces_going : (page : Page) (k : ℕ) (first now : World) → AtPiece page k first now → k ≤ PAGE_SCRIPTS → IsGoing PAGE_MARKS PAGE_NODES now
 pieces_going page k first now h few = record { sound = h.going.sound; headed = h.going.headed; rooted = h.going.rooted; limit = h.going.limit; long = omega (arith, h.going.long, few); few = omega (arith, h.going.few, few) }
 
 -- at the userscript of this number
 pub record AtStart (scripts : List (List ℕ)) (k : ℕ) (first now : World) : Type 0 where
-  pub going : IsGoing (800200 + 200010 * k) 20 now
+  pub going : IsGoing (START_MARKS + SCRIPT_MARKS * k) PAGE_NODES now
   pub lawful : (input : Input) (tasks : List Task) → input.starts ≡ scripts → AreTurns input [] tasks first.journal.marks → AreTurns input [] (tasks ++ tasks_from Start 0 k) now.journal.marks
   pub idle : (setups : Setups) → ((n : ℕ) → (setups (userscript n)).zone ≡ XrayScript) → AreIdle setups first.journal.marks → AreIdle setups now.journal.marks
 
-pub start_first : (scripts : List (List ℕ)) (first : World) → IsGoing 800200 20 first → AtStart scripts 0 first first
+pub start_first : (scripts : List (List ℕ)) (first : World) → IsGoing START_MARKS PAGE_NODES first → AtStart scripts 0 first first
 start_first scripts first h = record {
   going = record { sound = h.sound; headed = h.headed; rooted = h.rooted; limit = h.limit; long = omega (arith, h.long); few = h.few };
   lawful = λ input tasks e s. subst (λ ts. AreTurns input [] ts first.journal.marks) (sym (append-nil tasks)) s;
   idle = λ setups zone s. s;
 }
 
-pub start_step : (scripts : List (List ℕ)) (k : ℕ) (first old new : World) (text : List ℕ) → AtStart scripts k first old → k < length scripts → text ≡ slice_index_or scripts k [] → HasGone 200010 0 old new → IsHeaded new.tree
+pub start_step : (scripts : List (List ℕ)) (k : ℕ) (first old new : World) (text : List ℕ) → AtStart scripts k first old → k < length scripts → text ≡ slice_index_or scripts k [] → HasGone SCRIPT_MARKS 0 old new → IsHeaded new.tree
     → ((input : Input) (tasks : List Task) → slice_get input.starts k ≡ Some text → AreTurns input [] tasks old.journal.marks → AreTurns input [] (tasks ++ Start k ∷ []) new.journal.marks)
     → ((setups : Setups) → (setups (userscript k)).zone ≡ XrayScript → AreIdle setups old.journal.marks → AreIdle setups new.journal.marks) → AtStart scripts (k + 1) first new
 start_step scripts k first old new text h less is gone headed lawful idle = record {
-  going = going_more old new (800200 + 200010 * k) 20 200010 0 (800200 + 200010 * (k + 1)) 20 h.going gone headed (omega arith) (omega arith);
+  going = going_more old new (START_MARKS + SCRIPT_MARKS * k) PAGE_NODES SCRIPT_MARKS 0 (START_MARKS + SCRIPT_MARKS * (k + 1)) PAGE_NODES h.going gone headed (omega arith) (omega arith);
   lawful = λ input tasks e s. now input tasks e s;
   idle = λ setups zone s. idle setups (zone k) (h.idle setups zone s);
 }
@@ -218,8 +220,8 @@ start_step scripts k first old new text h less is gone headed lawful idle = reco
         let whole : (tasks ++ tasks_from Start 0 k) ++ Start k ∷ [] ≡ tasks ++ tasks_from Start 0 (k + 1) = append_assoc tasks (tasks_from Start 0 k) (Start k ∷ []) ∙ ap (λ ts. tasks ++ ts) (sym (tasks_next Start k)) in
         subst P whole (lawful input (tasks ++ tasks_from Start 0 k) there (h.lawful input tasks e s))
 
-pub start_room : (scripts : List (List ℕ)) (k : ℕ) (first now : World) → AtStart scripts k first now → k < 8 → HasRoom 200010 0 now
-start_room scripts k first now h less = room_going now (800200 + 200010 * k) 20 200010 0 h.going (omega (arith, less)) (omega arith)
+pub start_room : (scripts : List (List ℕ)) (k : ℕ) (first now : World) → AtStart scripts k first now → k < USERSCRIPT_LIMIT → HasRoom SCRIPT_MARKS 0 now
+start_room scripts k first now h less = room_going now (START_MARKS + SCRIPT_MARKS * k) PAGE_NODES SCRIPT_MARKS 0 h.going (omega (arith, less)) (omega arith)
 
 pub starts_ended : (scripts : List (List ℕ)) (k : ℕ) (first now : World) → AtStart scripts k first now → k ≡ length scripts → (input : Input) (tasks : List Task) → input.starts ≡ scripts → AreTurns input [] tasks first.journal.marks
     → AreTurns input [] (tasks ++ numbered Start 0 input.starts) now.journal.marks
@@ -228,5 +230,5 @@ starts_ended scripts k first now h all input tasks e s =
     let count : length input.starts ≡ k = ap (λ (ts : List (List ℕ)). length ts) e ∙ sym all in
     subst P (sym (numbered_all Start 0 input.starts ∙ ap (tasks_from Start 0) count)) (h.lawful input tasks e s)
 
-pub starts_going : (scripts : List (List ℕ)) (k : ℕ) (first now : World) → AtStart scripts k first now → k ≤ 8 → IsGoing 2500000 20 now
+pub starts_going : (scripts : List (List ℕ)) (k : ℕ) (first now : World) → AtStart scripts k first now → k ≤ USERSCRIPT_LIMIT → IsGoing LOAD_MARKS PAGE_NODES now
 starts_going scripts k first now h few = record { sound = h.going.sound; headed = h.going.headed; rooted = h.going.rooted; limit = h.going.limit; long = omega (arith, h.going.long, few); few = h.going.few }

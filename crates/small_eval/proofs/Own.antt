@@ -4,10 +4,11 @@ use Prim.Native.Nat.{zero, suc}
 use Rattle.std.specs.Prelude.{slice_set}
 use Rattle.std.proofs.lemmas.Bool.Decides.{nat_tests}
 use Rattle.door.specs.declared.values.Actor.{Actor}
-use Rattle.door.specs.Forest.{Forest, Node, NODE_LIMIT, made_by, node_at, the_host}
-use Rattle.door.specs.Changes.{create_refusal, insert_refusal, inserted, removed, with_attribute}
+use Rattle.dom_semantics.specs.Forest.{Forest, Node, NODE_LIMIT, made_by, node_at, the_host}
+use Rattle.dom_semantics.specs.Changes.{create_refusal, insert_refusal, inserted, removed, with_attribute}
 use Rattle.dom_tree.proofs.NodeLemmas.{length-removed, made_by-append, made_by-one}
 use Rattle.solo_model.specs.Lawful.{numbers_from, own_nodes}
+use Rattle.door.specs.declared.limits.TheConstants.{NODE_LIMIT as MOST_NODES}
 use Rattle.small_eval.specs.Builds.{appended, unless_told}
 
 -- a node's number first, where it is the maker's
@@ -79,9 +80,9 @@ own_count n maker [] = refl
 own_count n maker (y ∷ f) = made_by-append (y ∷ []) f maker ∙ ap (λ k. k + made_by f maker) (made_by-one y maker) ∙ count_by_first (nat_eq y.maker.0 maker.0) n (made_by f maker) (numbers_from (n + 1) maker f) (own_count (n + 1) maker f)
 
 -- the host may make a node more
-pub host_makes : (f : Forest) → length (own_nodes f) < 100000 → create_refusal f the_host ≡ None
+pub host_makes : (f : Forest) → length (own_nodes f) < MOST_NODES → create_refusal f the_host ≡ None
 unfolding NODE_LIMIT
 host_makes f h = rw less refl
   where
-    less : nat_lt (made_by f the_host) 100000 ≡ true
+    less : nat_lt (made_by f the_host) MOST_NODES ≡ true
     less = let many = own_count 0 the_host f in grind (arith, nat_tests)

@@ -22,17 +22,17 @@ use Rattle.small_meaning.specs.declared.prim.Prim.TheVariants.{Number, Str}
 use Rattle.door.specs.declared.values.Actor.{Actor}
 use Rattle.door.specs.declared.marks.Mark.{Mark}
 use Rattle.small_forms.specs.declared.script.Part.{Part}
-use Rattle.script_meaning.specs.Solo.{Tree}
-use Rattle.script_meaning.specs.Intrinsics.{Setup}
+use Rattle.js_semantics.specs.Solo.{Program}
+use Rattle.js_semantics.specs.Intrinsics.{Setup}
 use Rattle.small_meaning.specs.Rows.{Addition, Bare, Cont, Gives, Lone, Next, Plus, Throws, added, addition_row, argument_units, ask, bind, call_units, charge, follow, joined_row, line_row, lines_row, log_member, log_row, logged_row, part_row, plus_row, sum_row, text_of, text_units, with_nothing, written_row}
-use Rattle.small_meaning.specs.Stands.{Stands}
-use Rattle.small_eval.specs.Follows.{AfterLine, AfterUnit, Ends, IsSmall, IsText}
+use Rattle.small_meaning.specs.Reached.{HasReached}
+use Rattle.small_eval.specs.Continuations.{ContinuesWithLine, ContinuesWithUnit, Ends, IsSmall, IsText}
 use Rattle.small_eval.specs.declared.exit.Exit.{Exit}
 use Rattle.small_eval.specs.declared.exit.Exit.TheVariants.{Throw, Halt, NoMemory}
 
 -- of one point and the same
-pub stands_at : (s : Setup) (i : Actor) (marks : List Mark) (t u : Tree Bare) → t ≡ u → Stands s i marks t → Stands s i marks u
-stands_at s i marks t u e h = subst (Stands s i marks) e h
+pub stands_at : (s : Setup) (i : Actor) (marks : List Mark) (t u : Program Bare) → t ≡ u → HasReached s i marks t → HasReached s i marks u
+stands_at s i marks t u e h = subst (HasReached s i marks) e h
 
 -- two texts that fit are joined
 pub join_fits : (a b : List ℕ) (c : Cont) (fuel : ℕ) → ¬ (TEXT_LIMIT < utf8_len a + utf8_len b) → joined_row (a ++ b) c fuel ≡ charge (text_units (a ++ b)) (c (Gives (Str (a ++ b)))) c fuel
@@ -71,7 +71,7 @@ added-last e (part ∷ parts) last = added-last (Plus e part) parts last
 pub addition_plus : (e : Addition) (parts whole : List Part) (last : Part) (c : Cont) (fuel : ℕ) → whole ≡ parts ++ last ∷ []
     → addition_row (added e whole) c fuel ≡ charge 1 (addition_row (added e parts) (bind (λ x. part_row last (bind (λ y. plus_row x y c) c)) c)) c fuel
 unfolding addition_row
-addition_plus e parts whole last c fuel w = ap (λ ps. addition_row (added e ps) c fuel) w ∙ ap (λ s. addition_row s c fuel) (added-last e parts last)
+addition_plus e parts whole last c fuel world = ap (λ ps. addition_row (added e ps) c fuel) world ∙ ap (λ s. addition_row s c fuel) (added-last e parts last)
 
 pub addition_lone : (part : Part) (c : Cont) (fuel : ℕ) (parts : List Part) → parts ≡ [] → addition_row (added (Lone part) parts) c fuel ≡ part_row part c fuel
 unfolding addition_row
@@ -82,7 +82,7 @@ no_more [] e = refl
 no_more (x ∷ xs) e = absurd (omega (arith, e))
 
 -- what ends without a value ends what it is part of
-pub ends_bound : (s : Setup) (i : Actor) (marks : List Mark) (fuel : ℕ) (k : Prim → ℕ → Tree Bare) (c : Cont) (e : Exit) → Ends s i marks fuel (bind k c) e → Ends s i marks fuel c e
+pub ends_bound : (s : Setup) (i : Actor) (marks : List Mark) (fuel : ℕ) (k : Prim → ℕ → Program Bare) (c : Cont) (e : Exit) → Ends s i marks fuel (bind k c) e → Ends s i marks fuel c e
 ends_bound s i marks fuel k c (Throw reason) h = h
 ends_bound s i marks fuel k c (Halt stop) h = h
 ends_bound s i marks fuel k c NoMemory h = h
@@ -109,7 +109,7 @@ written_charged document value text c fuel units t u =
     ∙ ap (λ n. charge n (ask (Native DocumentSetTitle document (StrValue text ∷ [])) (with_nothing (c Next) c) c) c fuel) (sym u)
 
 -- a line ends where its last request does
-pub after_line : (s : Setup) (i : Actor) (marks : List Mark) (fuel : ℕ) (c : Cont) (r : Result (Unit {0}) Exit) → AfterUnit s i marks fuel (c Next) c r → AfterLine s i marks fuel c r
+pub after_line : (s : Setup) (i : Actor) (marks : List Mark) (fuel : ℕ) (c : Cont) (r : Result (Unit {0}) Exit) → ContinuesWithUnit s i marks fuel (c Next) c r → ContinuesWithLine s i marks fuel c r
 after_line s i marks fuel c (Ok u) h = h
 after_line s i marks fuel c (Err e) h = h
 
@@ -126,7 +126,7 @@ unfolding lines_row
 lines_over zone lines at c fuel h = ap (λ ls. lines_row zone ls c fuel) (drop_of_length-le lines h)
 
 -- what ends a line without a value ends the lines
-pub ends_follow : (s : Setup) (i : Actor) (marks : List Mark) (fuel : ℕ) (k : ℕ → Tree Bare) (c : Cont) (e : Exit) → Ends s i marks fuel (follow k c) e → Ends s i marks fuel c e
+pub ends_follow : (s : Setup) (i : Actor) (marks : List Mark) (fuel : ℕ) (k : ℕ → Program Bare) (c : Cont) (e : Exit) → Ends s i marks fuel (follow k c) e → Ends s i marks fuel c e
 ends_follow s i marks fuel k c (Throw reason) h = h
 ends_follow s i marks fuel k c (Halt stop) h = h
 ends_follow s i marks fuel k c NoMemory h = h

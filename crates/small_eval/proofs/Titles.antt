@@ -11,10 +11,10 @@ use Rattle.door.specs.declared.requests.ErrorKind.{ErrorKind}
 use Rattle.door.specs.declared.requests.Request.TheVariants.{Native}
 use Rattle.door.specs.declared.requests.Answer.TheVariants.{Value as ValueAnswer, Throw}
 use Rattle.door.specs.declared.marks.Mark.TheVariants.{Ask}
-use Rattle.door.specs.Forest.{Form, Root, Tagged, Written, Noted, Forest, Node, form_at, new_node, node_at, the_host}
-use Rattle.door.specs.Changes.{created, is_empty, with_text}
+use Rattle.dom_semantics.specs.Forest.{Form, Root, Tagged, Written, Noted, Forest, Node, form_at, new_node, node_at, the_host}
+use Rattle.dom_semantics.specs.Changes.{created, is_empty, with_text}
 use Rattle.solo_model.specs.Things.{the_document}
-use Rattle.solo_model.specs.Titles.{title_refusal, titled}
+use Rattle.dom_semantics.specs.Titles.{title_refusal, titled}
 use Rattle.solo_model.specs.Stage.{stage_of}
 use Rattle.solo_model.specs.Lawful.{numbers_from, own_nodes}
 use Rattle.small_eval.specs.declared.world.World.{World}
@@ -64,30 +64,30 @@ writes_titled : (f : Forest) (maker : Actor) (text : List ℕ) → IsHeaded f �
 writes_titled f maker text h k = subst (Writes f) (sym (titled_is f maker text h)) (writes_text f maker 3 text k)
 
 -- the world is ready for the answer to a title that was written
-pub set_ready_none : (w : World) (i : Actor) (text : List ℕ) (values : List Value) (g : Forest) → IsSound w → IsHeaded w.tree → i.0 ≢ 0 → values ≡ StrValue text ∷ [] → None ≡ title_refusal w.tree i text → g ≡ titled w.tree i text
-    → IsReady (record w { tree = g }) (Ask i (Native DocumentSetTitle the_document values) (ValueAnswer Undefined))
-set_ready_none w i text values g s h guest v r t =
-    let writes = writes_titled w.tree i text h guest in
-    let stage : w.tree ≡ (stage_of w.journal.marks).nodes = s.nodes in
-    let refused : title_refusal (stage_of w.journal.marks).nodes i text ≡ None = sym (r ∙ ap (λ f. title_refusal f i text) stage) in
+pub set_ready_none : (world : World) (i : Actor) (text : List ℕ) (values : List Value) (g : Forest) → IsSound world → IsHeaded world.tree → i.0 ≢ 0 → values ≡ StrValue text ∷ [] → None ≡ title_refusal world.tree i text → g ≡ titled world.tree i text
+    → IsReady (record world { tree = g }) (Ask i (Native DocumentSetTitle the_document values) (ValueAnswer Undefined))
+set_ready_none world i text values g s h guest v r t =
+    let writes = writes_titled world.tree i text h guest in
+    let stage : world.tree ≡ (stage_of world.journal.marks).nodes = s.nodes in
+    let refused : title_refusal (stage_of world.journal.marks).nodes i text ≡ None = sym (r ∙ ap (λ f. title_refusal f i text) stage) in
     rw v (record {
       genuine = s.genuine;
       truth = rw refused refl;
       nodes = t ∙ ap (λ f. titled f i text) stage;
       own = s.own ∙ sym writes.own ∙ ap own_nodes (sym t);
       events = s.events;
-      few = less (length w.tree) (length (titled w.tree i text)) (length g) (length w.journal.marks) s.few writes.few (ap length t);
+      few = less (length world.tree) (length (titled world.tree i text)) (length g) (length world.journal.marks) s.few writes.few (ap length t);
     })
   where
     less : (a b d m : ℕ) → a ≤ m + 1 → b ≤ a + 1 → d ≡ b → d ≤ m + 2
     less a b d m x y z = omega (arith, x, y, z)
 
 -- and to one that was refused
-pub set_ready_some : (w : World) (i : Actor) (text : List ℕ) (values : List Value) (g : Forest) (reason : ErrorKind) → IsSound w → values ≡ StrValue text ∷ [] → Some reason ≡ title_refusal w.tree i text → g ≡ w.tree
-    → IsReady (record w { tree = g }) (Ask i (Native DocumentSetTitle the_document values) (Throw reason))
-set_ready_some w i text values g reason s v r t =
-    let stage : w.tree ≡ (stage_of w.journal.marks).nodes = s.nodes in
-    let refused : title_refusal (stage_of w.journal.marks).nodes i text ≡ Some reason = sym (r ∙ ap (λ f. title_refusal f i text) stage) in
+pub set_ready_some : (world : World) (i : Actor) (text : List ℕ) (values : List Value) (g : Forest) (reason : ErrorKind) → IsSound world → values ≡ StrValue text ∷ [] → Some reason ≡ title_refusal world.tree i text → g ≡ world.tree
+    → IsReady (record world { tree = g }) (Ask i (Native DocumentSetTitle the_document values) (Throw reason))
+set_ready_some world i text values g reason s v r t =
+    let stage : world.tree ≡ (stage_of world.journal.marks).nodes = s.nodes in
+    let refused : title_refusal (stage_of world.journal.marks).nodes i text ≡ Some reason = sym (r ∙ ap (λ f. title_refusal f i text) stage) in
     rw (v, t) (record { genuine = s.genuine; truth = rw refused refl; nodes = stage; own = s.own; events = s.events; few = omega (arith, s.few) })
 
 pub on_none : {A : Type 0} (P Q : Type 0) (o : Option A) → o ≡ None → MatchOption o P (λ _. Q) → P

@@ -9,18 +9,19 @@ use Rattle.door.specs.declared.marks.Mark.{Mark}
 use Rattle.door.specs.declared.marks.Mark.TheVariants.{Turn}
 use Rattle.door.specs.declared.marks.Task.{Task}
 use Rattle.door.specs.declared.marks.Task.TheVariants.{Start, Piece as PieceTask, Ready, Load}
-use Rattle.door.specs.Changes.{is_empty}
+use Rattle.dom_semantics.specs.Changes.{is_empty}
 use Rattle.small_forms.specs.declared.script.Line.{Line}
 use Rattle.small_forms.specs.Scripts.{IsPageScript, IsUserscript}
 use Rattle.small_forms.specs.Pages.{ArePageScripts}
 use Rattle.solo_model.specs.Lawful.{AreBuilds, AreTurns, Input, IsScripted, IsTurn, numbered, tasks_of}
 use Rattle.solo_model.specs.Closed.{Setups}
-use Rattle.small_meaning.proofs.Standing.{stands-start}
+use Rattle.small_meaning.proofs.Reaching.{reached-start}
+use Rattle.door.specs.declared.limits.TheConstants.{MARK_LIMIT, NODE_LIMIT}
 use Rattle.small_eval.specs.Idle.{AreIdle}
 use Rattle.solo_model.proofs.Journals.{builds-then, turn-alone, turns-then}
 use Rattle.small_eval.specs.declared.world.World.{World}
 use Rattle.small_eval.specs.Builds.{HasBuilt, HasRoom, IsRooted}
-use Rattle.small_eval.specs.Follows.{Adds}
+use Rattle.small_eval.specs.Continuations.{Adds}
 use Rattle.small_eval.specs.Heads.{IsHeaded}
 use Rattle.small_eval.specs.Pieces.{after_script, pieces_from, script_writes}
 use Rattle.small_eval.specs.Turns.{AreUserscripts, HasGone, IsBuilding, IsGoing}
@@ -193,8 +194,8 @@ room_gone old new a b m n x y h k less fewer =
       few = omega (arith, many, fewer, h.few);
     }
 
-pub room_going : (w : World) (m n x y : ℕ) → IsGoing m n w → m + x ≤ 4000000 → n + y ≤ 100000 → HasRoom x y w
-room_going w m n x y h less fewer = record { sound = h.sound; rooted = h.rooted; room = omega (arith, h.limit, h.long, less); limit = omega (arith, h.limit); few = omega (arith, h.few, fewer) }
+pub room_going : (world : World) (m n x y : ℕ) → IsGoing m n world → m + x ≤ MARK_LIMIT → n + y ≤ NODE_LIMIT → HasRoom x y world
+room_going world m n x y h less fewer = record { sound = h.sound; rooted = h.rooted; room = omega (arith, h.limit, h.long, less); limit = omega (arith, h.limit); few = omega (arith, h.few, fewer) }
 
 pub going_more : (old new : World) (m n x y a b : ℕ) → IsGoing m n old → HasGone x y old new → IsHeaded new.tree → m + x ≤ a → n + y ≤ b → IsGoing a b new
 going_more old new m n x y a b h k headed less fewer =
@@ -226,4 +227,4 @@ script_few n text = by (is_empty text) refl
 
 -- before the first mark everybody waits
 pub idle_start : (setups : Setups) (marks : List Mark) → marks ≡ [] → AreIdle setups marks
-idle_start setups marks e = let P : List Mark → Type 0 = λ ms. AreIdle setups ms in subst P (sym e) (λ i guest. stands-start (setups i) i)
+idle_start setups marks e = let P : List Mark → Type 0 = λ ms. AreIdle setups ms in subst P (sym e) (λ i guest. reached-start (setups i) i)

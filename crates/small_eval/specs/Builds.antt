@@ -3,13 +3,14 @@ use Rattle.std.specs.Prelude.{◌≡◌, ◌≤◌, ◌<◌, ◌+◌, ◌^◌, �
 use Rattle.door.specs.declared.requests.ErrorKind.{ErrorKind}
 use Rattle.door.specs.declared.requests.Request.{Request}
 use Rattle.door.specs.declared.marks.Mark.{Mark}
-use Rattle.door.specs.Forest.{Form, Forest, the_host}
-use Rattle.door.specs.Changes.{create_refusal, created, insert_refusal, inserted}
+use Rattle.dom_semantics.specs.Forest.{Form, Forest, the_host}
+use Rattle.dom_semantics.specs.Changes.{create_refusal, created, insert_refusal, inserted}
 use Rattle.solo_model.specs.Closed.{Setups}
 use Rattle.solo_model.specs.Lawful.{AreBuilds}
 use Rattle.solo_model.specs.Stage.{Stage, built, with_nodes}
+use Rattle.door.specs.declared.limits.TheConstants.{NODE_LIMIT}
 use Rattle.small_eval.specs.declared.world.World.{World}
-use Rattle.small_eval.specs.Follows.{Adds}
+use Rattle.small_eval.specs.Continuations.{Adds}
 use Rattle.small_eval.specs.Idle.{AreIdle}
 use Rattle.small_eval.specs.Worlds.{IsSound}
 
@@ -18,12 +19,12 @@ abbrev pub IsRooted : List ℕ → Type 0
 IsRooted own = (rest : List ℕ) × (own ≡ 0 ∷ rest)
 
 -- so many marks and nodes of the host fit
-pub record HasRoom (marks nodes : ℕ) (w : World) : Type 0 where
-  pub sound : IsSound w
-  pub rooted : IsRooted w.own.items
-  pub room : length w.journal.marks + marks ≤ w.journal.limit
-  pub limit : w.journal.limit < 2 ^ 30
-  pub few : length w.own.items + nodes ≤ 100000
+pub record HasRoom (marks nodes : ℕ) (world : World) : Type 0 where
+  pub sound : IsSound world
+  pub rooted : IsRooted world.own.items
+  pub room : length world.journal.marks + marks ≤ world.journal.limit
+  pub limit : world.journal.limit < 2 ^ 30
+  pub few : length world.own.items + nodes ≤ NODE_LIMIT
 
 -- only these requests of the host were added, by which it made so many nodes, and nobody but the host sees them
 pub record HasBuilt (requests : List Request) (nodes : ℕ) (old new : World) : Type 0 where

@@ -1,6 +1,6 @@
 -- A document whose title element stands where it was built: html is node 1, head 2 and title 3; this project's own.
 use Rattle.std.specs.Prelude.{◌≡◌, ◌<◌, ℕ, Bool, true, false, List, [], ◌∷◌, codes, length}
-use Rattle.door.specs.Forest.{Forest, children_of, form_at, is_tagged}
+use Rattle.dom_semantics.specs.Forest.{Forest, children_of, form_at, is_tagged}
 
 abbrev pub is_title : Forest → ℕ → Bool
 is_title f n = is_tagged (codes "title") (form_at f n)

@@ -1,5 +1,6 @@
+pub mod Bounds
 pub mod Builds
-pub mod Follows
+pub mod Continuations
 pub mod Heads
 pub mod Idle
 pub mod Outcomes

@@ -1,7 +1,7 @@
 -- How the host builds a page of the form that is read, piece by piece (DOM, Interfaces Document, Node and Element); that it is cut after
 -- each script element is this project's own. A node goes by its number among the page's own nodes.
 use Rattle.std.specs.Prelude.{◌+◌, ℕ, Bool, List, [], ◌∷◌, ◌++◌, codes, if◌then◌else◌, Some, None}
-use Rattle.door.specs.Changes.{is_empty}
+use Rattle.dom_semantics.specs.Changes.{is_empty}
 use Rattle.door.specs.declared.values.Kind.TheVariants.{Element, Str as StrKind}
 use Rattle.door.specs.declared.values.Thing.{Thing}
 use Rattle.door.specs.declared.values.Value.TheVariants.{Thing as ThingValue, Str}

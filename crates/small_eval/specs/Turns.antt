@@ -5,10 +5,11 @@ use Rattle.door.specs.declared.marks.Mark.{Mark}
 use Rattle.door.specs.declared.marks.Mark.TheVariants.{Turn}
 use Rattle.door.specs.declared.marks.Task.{Task}
 use Rattle.door.specs.declared.marks.Task.TheVariants.{Piece as PieceTask}
-use Rattle.door.specs.Changes.{is_empty}
+use Rattle.dom_semantics.specs.Changes.{is_empty}
 use Rattle.small_forms.specs.declared.script.Line.{Line}
 use Rattle.small_forms.specs.Scripts.{IsUserscript}
 use Rattle.solo_model.specs.Lawful.{AreBuilds, AreTurns, Input}
+use Rattle.door.specs.declared.limits.TheConstants.{MARK_LIMIT}
 use Rattle.small_eval.specs.declared.world.World.{World}
 use Rattle.small_eval.specs.Builds.{IsRooted}
 use Rattle.small_eval.specs.Heads.{IsHeaded}
@@ -35,13 +36,13 @@ pub record HasGone (marks nodes : ℕ) (old new : World) : Type 0 where
   pub own : (more : List ℕ) × (new.own.items ≡ old.own.items ++ more) × (length more ≡ nodes)
 
 -- a run has at most so many marks and nodes of the host, and the title element stands where it was built
-pub record IsGoing (marks nodes : ℕ) (w : World) : Type 0 where
-  pub sound : IsSound w
-  pub headed : IsHeaded w.tree
-  pub rooted : IsRooted w.own.items
-  pub limit : w.journal.limit ≡ 4000000
-  pub long : length w.journal.marks ≤ marks
-  pub few : length w.own.items ≤ nodes
+pub record IsGoing (marks nodes : ℕ) (world : World) : Type 0 where
+  pub sound : IsSound world
+  pub headed : IsHeaded world.tree
+  pub rooted : IsRooted world.own.items
+  pub limit : world.journal.limit ≡ MARK_LIMIT
+  pub long : length world.journal.marks ≤ marks
+  pub few : length world.own.items ≤ nodes
 
 -- how many nodes a script element makes
 abbrev pub script_nodes : List ℕ → ℕ

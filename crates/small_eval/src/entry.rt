@@ -7,22 +7,20 @@ ghost use Rattle.solo_model.specs.Closed.{Setups};
 ghost use Rattle.small_meaning.specs.Errors.{error_text};
 ghost use Rattle.solo_model.specs.Lawful.{IsEntry};
 ghost use Rattle.small_meaning.specs.Rows.{Reads, outcome_of};
-ghost use Rattle.small_eval.specs.Follows.{Adds, GoesOn};
+ghost use Rattle.small_eval.specs.Continuations.{Adds, NotOutOfMemory};
 ghost use Rattle.small_eval.specs.Heads.{IsHeaded};
 ghost use Rattle.small_eval.specs.Idle.{AreIdle};
 ghost use Rattle.small_eval.specs.Outcomes.{done_of};
 ghost use Rattle.small_eval.specs.Worlds.{IsSound};
+ghost use Rattle.small_eval.specs.Bounds.{ENTRY_MARKS};
 
 use crate::evaluate::lines;
 use crate::exit::Exit;
 use crate::world::{World, note};
 use base_text::{Mem, NoMemory, Text, TextFault};
-use door::{Actor, Entry, ErrorKind, Mark, Outcome, Zone};
+use door::{Actor, Entry, ErrorKind, FUEL_LIMIT, Mark, Outcome, Zone};
 use small_forms::{Lines, page_lines, text_of, userscript_lines};
 use std::alloc::Global;
-
-/// The units of an entry.
-const FUEL: u32 = 200_000;
 
 /// The lines that a script's text is read as, by its zone.
 fn lines_of(alloc: Global, zone: Zone, text: &Text) -> Mem<Lines>
@@ -73,7 +71,7 @@ fn crossing_text(alloc: Global, message: &Text) -> Mem<Text>
 /// How an entry ended.
 fn outcome(alloc: Global, ended: &Result<(), Exit>) -> Mem<Outcome>
     ensures outcome { IfOk result (λ outcome. outcome ≡ outcome_of (done_of ended.now)) }
-    ensures goes { OnOk result (GoesOn ended.now) }
+    ensures goes { OnOk result (NotOutOfMemory ended.now) }
 {
     match ended {
         Ok(()) => Ok(Outcome::Done),
@@ -84,23 +82,23 @@ fn outcome(alloc: Global, ended: &Result<(), Exit>) -> Mem<Outcome>
 }
 
 /// A script is entered with its text, runs its lines, and is left.
-pub fn enter(alloc: Global, w: &mut World, actor: Actor, zone: Zone, text: &Text) -> Mem<()>
-    requires sound { IsSound w.old }
-    requires headed { IsHeaded w.old.tree }
+pub fn enter(alloc: Global, world: &mut World, actor: Actor, zone: Zone, text: &Text) -> Mem<()>
+    requires sound { IsSound world.old }
+    requires headed { IsHeaded world.old.tree }
     requires guest { actor.0 ≢ 0 }
     requires reads { (lines : List AnyLine) × Reads zone text.now lines }
-    requires room { length w.old.journal.marks + 200002 ≤ w.old.journal.limit }
-    requires limit { w.old.journal.limit < 2 ^ 30 }
-    ensures entry { OnOk result ((marks : List AnyMark) × Adds w.old.journal w.new.journal marks × IsEntry actor text.now marks × (length marks ≤ 200002)) }
-    ensures sound { OnOk result (IsSound w.new) }
-    ensures headed { OnOk result (IsHeaded w.new.tree) }
-    ensures own { OnOk result (w.new.own ≡ w.old.own) }
-    ensures idle { (setups : Setups) → (setups actor).zone ≡ zone → AreIdle setups w.old.journal.marks → OnOk result (AreIdle setups w.new.journal.marks) }
+    requires room { length world.old.journal.marks + ENTRY_MARKS ≤ world.old.journal.limit }
+    requires limit { world.old.journal.limit < 2 ^ 30 }
+    ensures entry { OnOk result ((marks : List AnyMark) × Adds world.old.journal world.new.journal marks × IsEntry actor text.now marks × (length marks ≤ ENTRY_MARKS)) }
+    ensures sound { OnOk result (IsSound world.new) }
+    ensures headed { OnOk result (IsHeaded world.new.tree) }
+    ensures own { OnOk result (world.new.own ≡ world.old.own) }
+    ensures idle { (setups : Setups) → (setups actor).zone ≡ zone → AreIdle setups world.old.journal.marks → OnOk result (AreIdle setups world.new.journal.marks) }
 {
     let script = lines_of(alloc, zone, text)?;
-    note(w, Mark::Enter(actor, Entry::Script(text.share()?)))?;
-    let mut fuel = FUEL;
-    let ended = lines(alloc, w, actor, zone, &mut fuel, script.as_slice());
+    note(world, Mark::Enter(actor, Entry::Script(text.share()?)))?;
+    let mut fuel = FUEL_LIMIT;
+    let ended = lines(alloc, world, actor, zone, &mut fuel, script.as_slice());
     let outcome = outcome(alloc, &ended)?;
-    note(w, Mark::Leave(actor, outcome, FUEL - fuel))
+    note(world, Mark::Leave(actor, outcome, FUEL_LIMIT - fuel))
 }

@@ -5,12 +5,12 @@ ghost use Rattle.base_text.specs.Scalars.{utf8_len};
 ghost use Rattle.door.specs.declared.marks.Mark.{Mark};
 ghost use Rattle.door.specs.declared.values.Actor.{Actor as AnyActor};
 ghost use Rattle.small_forms.specs.Scripts.{AreLines, IsSum, sum_of};
-ghost use Rattle.script_meaning.specs.Intrinsics.{Setup};
+ghost use Rattle.js_semantics.specs.Intrinsics.{Setup};
 ghost use Rattle.small_meaning.specs.Rows.{Cont, Lone, added, addition_row, argument_units, call_units, joined_row, line_row, lines_row, log_row, part_row, plus_row, text_of, text_units, title_row};
-ghost use Rattle.small_meaning.specs.Stands.{Stands};
-ghost use Rattle.small_eval.specs.Follows.{After, AfterLine, GoesOn, HasMet, IsSmall, IsText, MeetsNothing};
+ghost use Rattle.small_meaning.specs.Reached.{HasReached};
+ghost use Rattle.small_eval.specs.Continuations.{Continues, ContinuesWithLine, NotOutOfMemory, HasMet, IsSmall, IsText, MeetsNothing};
 ghost use Rattle.small_eval.specs.Heads.{IsHeaded};
-ghost use Rattle.small_eval.specs.Worlds.{IsSound, Keeps};
+ghost use Rattle.small_eval.specs.Worlds.{IsSound, PreservesRest};
 
 use crate::ask::{ask_document, ask_log, ask_set_title, ask_title};
 use crate::exit::{Exit, charge};
@@ -24,20 +24,20 @@ use std::alloc::Global;
 /// Evaluates a part of a sum.
 fn part(
     alloc: Global,
-    w: &mut World,
+    world: &mut World,
     actor: Actor,
     fuel: &mut u32,
     part: &Part,
 ) -> Result<Prim, Exit>
-    requires sound { IsSound w.old }
-    requires room { length w.old.journal.marks + fuel.old < w.old.journal.limit }
-    ensures own { (s : Setup) (c : Cont) → Stands s actor w.old.journal.marks (part_row part.now c fuel.old) → After s actor w.new.journal.marks fuel.new c result }
-    ensures same { GoesOn result → MeetsNothing actor w.old.journal.marks w.new.journal.marks }
-    ensures keeps { GoesOn result → Keeps actor w.old w.new fuel.old fuel.new }
+    requires sound { IsSound world.old }
+    requires room { length world.old.journal.marks + fuel.old < world.old.journal.limit }
+    ensures own { (s : Setup) (c : Cont) → HasReached s actor world.old.journal.marks (part_row part.now c fuel.old) → Continues s actor world.new.journal.marks fuel.new c result }
+    ensures same { NotOutOfMemory result → MeetsNothing actor world.old.journal.marks world.new.journal.marks }
+    ensures keeps { NotOutOfMemory result → PreservesRest actor world.old world.new fuel.old fuel.new }
     ensures small { IfOk result (λ value. IsSmall 1 value) }
 {
     match part {
-        Part::Title => title(alloc, w, actor, fuel),
+        Part::Title => title(alloc, world, actor, fuel),
         Part::Number(number) => {
             charge(fuel, 1)?;
             Ok(Prim::Number(u32::from(*number)))
@@ -50,17 +50,17 @@ fn part(
 }
 
 /// Evaluates `document.title`.
-fn title(alloc: Global, w: &mut World, actor: Actor, fuel: &mut u32) -> Result<Prim, Exit>
-    requires sound { IsSound w.old }
-    requires room { length w.old.journal.marks + fuel.old < w.old.journal.limit }
-    ensures own { (s : Setup) (c : Cont) → Stands s actor w.old.journal.marks (part_row Part.Title c fuel.old) → After s actor w.new.journal.marks fuel.new c result }
-    ensures same { GoesOn result → MeetsNothing actor w.old.journal.marks w.new.journal.marks }
-    ensures keeps { GoesOn result → Keeps actor w.old w.new fuel.old fuel.new }
+fn title(alloc: Global, world: &mut World, actor: Actor, fuel: &mut u32) -> Result<Prim, Exit>
+    requires sound { IsSound world.old }
+    requires room { length world.old.journal.marks + fuel.old < world.old.journal.limit }
+    ensures own { (s : Setup) (c : Cont) → HasReached s actor world.old.journal.marks (part_row Part.Title c fuel.old) → Continues s actor world.new.journal.marks fuel.new c result }
+    ensures same { NotOutOfMemory result → MeetsNothing actor world.old.journal.marks world.new.journal.marks }
+    ensures keeps { NotOutOfMemory result → PreservesRest actor world.old world.new fuel.old fuel.new }
     ensures small { IfOk result (λ value. IsSmall 1 value) }
 {
     charge(fuel, 1)?;
-    ask_document(alloc, w, actor, fuel)?;
-    let text = ask_title(alloc, w, actor, fuel)?;
+    ask_document(alloc, world, actor, fuel)?;
+    let text = ask_title(alloc, world, actor, fuel)?;
     Ok(Prim::Str(text))
 }
 
@@ -83,7 +83,7 @@ pub fn text_of(alloc: Global, value: &Prim) -> Mem<Text>
 
 /// Joins two texts.
 fn join(alloc: Global, fuel: &mut u32, left: &Text, right: &Text) -> Result<Prim, Exit>
-    ensures own { (s : Setup) (i : AnyActor) (marks : List Mark) (c : Cont) → Stands s i marks (joined_row (left.now ++ right.now) c fuel.old) → After s i marks fuel.new c result }
+    ensures own { (s : Setup) (i : AnyActor) (marks : List Mark) (c : Cont) → HasReached s i marks (joined_row (left.now ++ right.now) c fuel.old) → Continues s i marks fuel.new c result }
     ensures fuel { fuel.new ≤ fuel.old }
     ensures small { IfOk result (λ value. IsSmall 0 value) }
 {
@@ -101,7 +101,7 @@ fn join(alloc: Global, fuel: &mut u32, left: &Text, right: &Text) -> Result<Prim
 fn plus(alloc: Global, fuel: &mut u32, left: &Prim, right: &Prim) -> Result<Prim, Exit>
     requires small_left { IsSmall 7 left.now }
     requires small_right { IsSmall 1 right.now }
-    ensures own { (s : Setup) (i : AnyActor) (marks : List Mark) (c : Cont) → Stands s i marks (plus_row left.now right.now c fuel.old) → After s i marks fuel.new c result }
+    ensures own { (s : Setup) (i : AnyActor) (marks : List Mark) (c : Cont) → HasReached s i marks (plus_row left.now right.now c fuel.old) → Continues s i marks fuel.new c result }
     ensures fuel { fuel.new ≤ fuel.old }
     ensures small { (parts : ℕ) → IsSmall parts left.now → IfOk result (λ value. IsSmall (parts + 1) value) }
 {
@@ -115,7 +115,7 @@ fn plus(alloc: Global, fuel: &mut u32, left: &Prim, right: &Prim) -> Result<Prim
 /// Joins the texts of two values, of which one is a text.
 fn join_values(alloc: Global, fuel: &mut u32, left: &Prim, right: &Prim) -> Result<Prim, Exit>
     requires text { IsText left.now right.now }
-    ensures own { (s : Setup) (i : AnyActor) (marks : List Mark) (c : Cont) → Stands s i marks (plus_row left.now right.now c fuel.old) → After s i marks fuel.new c result }
+    ensures own { (s : Setup) (i : AnyActor) (marks : List Mark) (c : Cont) → HasReached s i marks (plus_row left.now right.now c fuel.old) → Continues s i marks fuel.new c result }
     ensures fuel { fuel.new ≤ fuel.old }
     ensures small { IfOk result (λ value. IsSmall 0 value) }
 {
@@ -127,49 +127,49 @@ fn join_values(alloc: Global, fuel: &mut u32, left: &Prim, right: &Prim) -> Resu
 /// Evaluates a sum from its first part on.
 fn addition(
     alloc: Global,
-    w: &mut World,
+    world: &mut World,
     actor: Actor,
     fuel: &mut u32,
     first: &Part,
     more: &[Part],
 ) -> Result<Prim, Exit>
-    requires sound { IsSound w.old }
+    requires sound { IsSound world.old }
     requires few { length more.now ≤ 7 }
-    requires room { length w.old.journal.marks + fuel.old < w.old.journal.limit }
-    ensures own { (s : Setup) (c : Cont) → Stands s actor w.old.journal.marks (addition_row (added (Lone first.now) more.now) c fuel.old) → After s actor w.new.journal.marks fuel.new c result }
-    ensures same { GoesOn result → MeetsNothing actor w.old.journal.marks w.new.journal.marks }
-    ensures keeps { GoesOn result → Keeps actor w.old w.new fuel.old fuel.new }
+    requires room { length world.old.journal.marks + fuel.old < world.old.journal.limit }
+    ensures own { (s : Setup) (c : Cont) → HasReached s actor world.old.journal.marks (addition_row (added (Lone first.now) more.now) c fuel.old) → Continues s actor world.new.journal.marks fuel.new c result }
+    ensures same { NotOutOfMemory result → MeetsNothing actor world.old.journal.marks world.new.journal.marks }
+    ensures keeps { NotOutOfMemory result → PreservesRest actor world.old world.new fuel.old fuel.new }
     ensures small { IfOk result (λ value. IsSmall (length more.now + 1) value) }
 {
     let Some((last, before)) = more.split_last() else {
-        return part(alloc, w, actor, fuel, first);
+        return part(alloc, world, actor, fuel, first);
     };
     charge(fuel, 1)?;
-    let left = addition(alloc, w, actor, fuel, first, before)?;
-    let right = part(alloc, w, actor, fuel, last)?;
+    let left = addition(alloc, world, actor, fuel, first, before)?;
+    let right = part(alloc, world, actor, fuel, last)?;
     plus(alloc, fuel, &left, &right)
 }
 
 /// Runs a line that logs a sum.
 fn log_line(
     alloc: Global,
-    w: &mut World,
+    world: &mut World,
     actor: Actor,
     zone: Zone,
     fuel: &mut u32,
     sum: &Sum,
 ) -> Result<(), Exit>
-    requires sound { IsSound w.old }
+    requires sound { IsSound world.old }
     requires few { length sum.now.more ≤ 7 }
-    requires room { length w.old.journal.marks + fuel.old < w.old.journal.limit }
-    ensures own { (s : Setup) (c : Cont) → Stands s actor w.old.journal.marks (log_row zone sum.now c fuel.old) → AfterLine s actor w.new.journal.marks fuel.new c result }
-    ensures keeps { GoesOn result → Keeps actor w.old w.new fuel.old fuel.new }
+    requires room { length world.old.journal.marks + fuel.old < world.old.journal.limit }
+    ensures own { (s : Setup) (c : Cont) → HasReached s actor world.old.journal.marks (log_row zone sum.now c fuel.old) → ContinuesWithLine s actor world.new.journal.marks fuel.new c result }
+    ensures keeps { NotOutOfMemory result → PreservesRest actor world.old world.new fuel.old fuel.new }
 {
     charge(fuel, call_units(zone))?;
-    let value = addition(alloc, w, actor, fuel, &sum.first, sum.more.as_slice())?;
+    let value = addition(alloc, world, actor, fuel, &sum.first, sum.more.as_slice())?;
     let text = text_of(alloc, &value)?;
     charge(fuel, text_units(&text))?;
-    ask_log(alloc, w, actor, zone, fuel, &text)
+    ask_log(alloc, world, actor, zone, fuel, &text)
 }
 
 /// The statement, the call, and the name and the member that are called.
@@ -196,72 +196,72 @@ fn argument_units(value: &Prim, text: &Text) -> u32
 /// Runs a line that writes a sum into the title.
 fn title_line(
     alloc: Global,
-    w: &mut World,
+    world: &mut World,
     actor: Actor,
     fuel: &mut u32,
     sum: &Sum,
 ) -> Result<(), Exit>
-    requires sound { IsSound w.old }
-    requires headed { IsHeaded w.old.tree }
+    requires sound { IsSound world.old }
+    requires headed { IsHeaded world.old.tree }
     requires guest { actor.0 ≢ 0 }
     requires few { length sum.now.more ≤ 7 }
-    requires room { length w.old.journal.marks + fuel.old < w.old.journal.limit }
-    requires limit { w.old.journal.limit < 2 ^ 30 }
-    ensures own { (s : Setup) (c : Cont) → Stands s actor w.old.journal.marks (title_row sum.now c fuel.old) → AfterLine s actor w.new.journal.marks fuel.new c result }
-    ensures keeps { GoesOn result → Keeps actor w.old w.new fuel.old fuel.new }
+    requires room { length world.old.journal.marks + fuel.old < world.old.journal.limit }
+    requires limit { world.old.journal.limit < 2 ^ 30 }
+    ensures own { (s : Setup) (c : Cont) → HasReached s actor world.old.journal.marks (title_row sum.now c fuel.old) → ContinuesWithLine s actor world.new.journal.marks fuel.new c result }
+    ensures keeps { NotOutOfMemory result → PreservesRest actor world.old world.new fuel.old fuel.new }
 {
     charge(fuel, 2)?;
-    ask_document(alloc, w, actor, fuel)?;
-    let value = addition(alloc, w, actor, fuel, &sum.first, sum.more.as_slice())?;
+    ask_document(alloc, world, actor, fuel)?;
+    let value = addition(alloc, world, actor, fuel, &sum.first, sum.more.as_slice())?;
     let text = text_of(alloc, &value)?;
     charge(fuel, argument_units(&value, &text))?;
-    ask_set_title(alloc, w, actor, fuel, &text)
+    ask_set_title(alloc, world, actor, fuel, &text)
 }
 
 /// Runs a line.
 fn line(
     alloc: Global,
-    w: &mut World,
+    world: &mut World,
     actor: Actor,
     zone: Zone,
     fuel: &mut u32,
     line: &Line,
 ) -> Result<(), Exit>
-    requires sound { IsSound w.old }
-    requires headed { IsHeaded w.old.tree }
+    requires sound { IsSound world.old }
+    requires headed { IsHeaded world.old.tree }
     requires guest { actor.0 ≢ 0 }
     requires adds { IsSum (sum_of line.now) }
-    requires room { length w.old.journal.marks + fuel.old < w.old.journal.limit }
-    requires limit { w.old.journal.limit < 2 ^ 30 }
-    ensures own { (s : Setup) (c : Cont) → Stands s actor w.old.journal.marks (line_row zone line.now c fuel.old) → AfterLine s actor w.new.journal.marks fuel.new c result }
-    ensures keeps { GoesOn result → Keeps actor w.old w.new fuel.old fuel.new }
+    requires room { length world.old.journal.marks + fuel.old < world.old.journal.limit }
+    requires limit { world.old.journal.limit < 2 ^ 30 }
+    ensures own { (s : Setup) (c : Cont) → HasReached s actor world.old.journal.marks (line_row zone line.now c fuel.old) → ContinuesWithLine s actor world.new.journal.marks fuel.new c result }
+    ensures keeps { NotOutOfMemory result → PreservesRest actor world.old world.new fuel.old fuel.new }
 {
     match line {
-        Line::Log(sum) => log_line(alloc, w, actor, zone, fuel, sum),
-        Line::SetTitle(sum) => title_line(alloc, w, actor, fuel, sum),
+        Line::Log(sum) => log_line(alloc, world, actor, zone, fuel, sum),
+        Line::SetTitle(sum) => title_line(alloc, world, actor, fuel, sum),
     }
 }
 
 /// Runs the lines in order.
 pub fn lines(
     alloc: Global,
-    w: &mut World,
+    world: &mut World,
     actor: Actor,
     zone: Zone,
     fuel: &mut u32,
     lines: &[Line],
 ) -> Result<(), Exit>
-    requires sound { IsSound w.old }
-    requires headed { IsHeaded w.old.tree }
+    requires sound { IsSound world.old }
+    requires headed { IsHeaded world.old.tree }
     requires guest { actor.0 ≢ 0 }
     requires adds { AreLines lines.now }
-    requires room { length w.old.journal.marks + fuel.old < w.old.journal.limit }
-    requires limit { w.old.journal.limit < 2 ^ 30 }
-    ensures own { (s : Setup) (c : Cont) → Stands s actor w.old.journal.marks (lines_row zone lines.now c fuel.old) → AfterLine s actor w.new.journal.marks fuel.new c result }
-    ensures keeps { GoesOn result → Keeps actor w.old w.new fuel.old fuel.new }
+    requires room { length world.old.journal.marks + fuel.old < world.old.journal.limit }
+    requires limit { world.old.journal.limit < 2 ^ 30 }
+    ensures own { (s : Setup) (c : Cont) → HasReached s actor world.old.journal.marks (lines_row zone lines.now c fuel.old) → ContinuesWithLine s actor world.new.journal.marks fuel.new c result }
+    ensures keeps { NotOutOfMemory result → PreservesRest actor world.old world.new fuel.old fuel.new }
 {
     for next in lines {
-        line(alloc, w, actor, zone, fuel, next)?;
+        line(alloc, world, actor, zone, fuel, next)?;
     }
     Ok(())
 }

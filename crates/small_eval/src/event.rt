@@ -12,19 +12,15 @@ ghost use Rattle.solo_model.specs.Closed.{Setups};
 ghost use Rattle.solo_model.specs.Lawful.{host_event};
 ghost use Rattle.solo_model.specs.Things.{the_window};
 ghost use Rattle.small_eval.specs.Builds.{HasRoom};
-ghost use Rattle.small_eval.specs.Follows.{Adds};
+ghost use Rattle.small_eval.specs.Continuations.{Adds};
 ghost use Rattle.small_eval.specs.Idle.{AreIdle};
 ghost use Rattle.small_eval.specs.Worlds.{IsSound};
 
-use crate::ask::WINDOW;
 use crate::world::{World, note};
 use base_text::Mem;
-use door::{Actor, Answer, Mark, Member, Request, Thing, Value, Values};
+use door::{Answer, HOST, Mark, Member, Request, Thing, Value, Values, WINDOW};
 use small_forms::text_of;
 use std::alloc::Global;
-
-/// The actor that tells the page how far it is.
-const HOST: Actor = Actor(0);
 
 /// The type of an event, its flags, and no detail.
 fn flags(alloc: Global, kind: Value, bubbles: bool) -> Mem<Values>
@@ -39,18 +35,18 @@ fn flags(alloc: Global, kind: Value, bubbles: bool) -> Mem<Values>
 }
 
 /// The host makes an event, which isn't cancelable.
-fn make_event(alloc: Global, w: &mut World, kind: &[u8], bubbles: bool) -> Mem<()>
-    requires room { HasRoom 1 0 w.old }
-    requires few { w.old.events < 2 ^ 31 }
+fn make_event(alloc: Global, world: &mut World, kind: &[u8], bubbles: bool) -> Mem<()>
+    requires room { HasRoom 1 0 world.old }
+    requires few { world.old.events < 2 ^ 31 }
     requires kind { IsTrue (list_all is_ascii kind.now) × (length kind.now ≤ TEXT_LIMIT) }
-    ensures added { OnOk result (Adds w.old.journal w.new.journal (Build (Native NewEvent the_window (StrValue kind.now ∷ (BoolValue bubbles ∷ (BoolValue false ∷ (NullValue ∷ []))))) ∷ [])) }
-    ensures sound { OnOk result (IsSound w.new) }
-    ensures same { OnOk result ((w.new.tree ≡ w.old.tree) × (w.new.own ≡ w.old.own)) }
+    ensures added { OnOk result (Adds world.old.journal world.new.journal (Build (Native NewEvent the_window (StrValue kind.now ∷ (BoolValue bubbles ∷ (BoolValue false ∷ (NullValue ∷ []))))) ∷ [])) }
+    ensures sound { OnOk result (IsSound world.new) }
+    ensures same { OnOk result ((world.new.tree ≡ world.old.tree) × (world.new.own ≡ world.old.own)) }
 {
     let arguments = flags(alloc, Value::Str(text_of(alloc, kind)?), bubbles)?;
     let request = Request::Native(Member::NewEvent, WINDOW, arguments);
-    w.events += 1;
-    note(w, Mark::Build(request))?;
+    world.events += 1;
+    note(world, Mark::Build(request))?;
     Ok(())
 }
 
@@ -58,21 +54,21 @@ fn make_event(alloc: Global, w: &mut World, kind: &[u8], bubbles: bool) -> Mem<(
 /// so it comes back true (DOM, Dispatching events).
 pub fn host_event(
     alloc: Global,
-    w: &mut World,
+    world: &mut World,
     kind: &[u8],
     bubbles: bool,
     target: Thing,
 ) -> Mem<()>
-    requires room { HasRoom 3 0 w.old }
+    requires room { HasRoom 3 0 world.old }
     requires kind { IsTrue (list_all is_ascii kind.now) × (length kind.now ≤ TEXT_LIMIT) }
-    ensures added { OnOk result (Adds w.old.journal w.new.journal (host_event w.old.journal.marks kind.now bubbles target)) }
-    ensures sound { OnOk result (IsSound w.new) }
-    ensures same { OnOk result ((w.new.tree ≡ w.old.tree) × (w.new.own ≡ w.old.own)) }
-    ensures idle { (setups : Setups) → AreIdle setups w.old.journal.marks → OnOk result (AreIdle setups w.new.journal.marks) }
+    ensures added { OnOk result (Adds world.old.journal world.new.journal (host_event world.old.journal.marks kind.now bubbles target)) }
+    ensures sound { OnOk result (IsSound world.new) }
+    ensures same { OnOk result ((world.new.tree ≡ world.old.tree) × (world.new.own ≡ world.old.own)) }
+    ensures idle { (setups : Setups) → AreIdle setups world.old.journal.marks → OnOk result (AreIdle setups world.new.journal.marks) }
 {
-    let number = w.events;
-    make_event(alloc, w, kind, bubbles)?;
-    note(w, Mark::Dispatch(HOST, number, target))?;
-    note(w, Mark::Back(HOST, Answer::Value(Value::Bool(true))))?;
+    let number = world.events;
+    make_event(alloc, world, kind, bubbles)?;
+    note(world, Mark::Dispatch(HOST, number, target))?;
+    note(world, Mark::Back(HOST, Answer::Value(Value::Bool(true))))?;
     Ok(())
 }

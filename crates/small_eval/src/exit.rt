@@ -3,11 +3,11 @@
 ghost use Rattle.std.specs.Prelude.{◌≡◌, ◌≤◌, ◌+◌, List, ℕ, OnOk};
 ghost use Rattle.door.specs.declared.marks.Mark.{Mark};
 ghost use Rattle.door.specs.declared.values.Actor.{Actor};
-ghost use Rattle.script_meaning.specs.Solo.{Tree};
-ghost use Rattle.script_meaning.specs.Intrinsics.{Setup};
+ghost use Rattle.js_semantics.specs.Solo.{Program};
+ghost use Rattle.js_semantics.specs.Intrinsics.{Setup};
 ghost use Rattle.small_meaning.specs.Rows.{Bare, Cont, charge};
-ghost use Rattle.small_meaning.specs.Stands.{Stands};
-ghost use Rattle.small_eval.specs.Follows.{AfterUnit};
+ghost use Rattle.small_meaning.specs.Reached.{HasReached};
+ghost use Rattle.small_eval.specs.Continuations.{ContinuesWithUnit};
 
 use base_text::NoMemory;
 use door::{ErrorKind, StopKind};
@@ -37,7 +37,7 @@ impl From<NoMemory> for Exit {
 /// Charges units of fuel. A charge above what is left uses all of it.
 #[tactic(auto, unfolding(small_meaning::specs::Rows::charge))]
 pub fn charge(fuel: &mut u32, units: u32) -> Result<(), Exit>
-    ensures own { (s : Setup) (i : Actor) (marks : List Mark) (k : ℕ → Tree Bare) (c : Cont) → Stands s i marks (charge units k c fuel.old) → AfterUnit s i marks fuel.new k c result }
+    ensures own { (s : Setup) (i : Actor) (marks : List Mark) (k : ℕ → Program Bare) (c : Cont) → HasReached s i marks (charge units k c fuel.old) → ContinuesWithUnit s i marks fuel.new k c result }
     ensures fuel { fuel.new ≤ fuel.old }
     ensures spent { OnOk result (fuel.new + units ≤ fuel.old) }
 {

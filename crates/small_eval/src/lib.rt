@@ -1,4 +1,4 @@
-//! The world of a run, as far as the forms that are read come: the journal, the document, and what runs in it.
+//! Runs a page and its userscripts in the forms that are read today: the world of a run is its journal and the document that the journal makes.
 #![tactic(auto)]
 
 mod ask;
@@ -7,10 +7,11 @@ mod entry;
 mod evaluate;
 mod event;
 mod exit;
+mod lists;
 mod page;
 mod run;
 mod title;
 mod world;
 
 pub use run::play;
-pub use world::{MARK_LIMIT, World};
+pub use world::World;

@@ -1,17 +1,18 @@
 //! The document's title, read from its tree.
 
-ghost use Rattle.std.specs.Prelude.{◌≡◌, ◌<◌, ◌≤◌, ◌^◌, MatchOption, ◌∷◌, ◌++◌, List, ℕ, false, OnOk, IfOk, IfSome, IsErrOf, codes, length, encode_utf8_all};
+ghost use Rattle.std.specs.Prelude.{◌≡◌, ◌<◌, ◌≤◌, ◌^◌, MatchOption, ◌∷◌, ◌++◌, List, ℕ, OnOk, IfOk, IfSome, IsErrOf, codes, length, encode_utf8_all};
 ghost use Rattle.std.specs.String.{string_bytes};
 ghost use Rattle.base_text.specs.Scalars.{utf8_len};
 ghost use Rattle.base_text.specs.declared.text.TheConstants.{TEXT_LIMIT};
-ghost use Rattle.door.specs.Forest.{child_text, form_at, in_order, is_tagged, own_text};
-ghost use Rattle.solo_model.specs.Titles.{collapsed, first_tagged, is_white, title_element, title_of, title_refusal, titled};
-ghost use Rattle.door.specs.Changes.{text_refusal, with_text};
+ghost use Rattle.dom_semantics.specs.Forest.{child_text, form_at, in_order, is_tagged, own_text};
+ghost use Rattle.dom_semantics.specs.Titles.{first_tagged, title_element, title_of, title_refusal, titled};
+ghost use Rattle.dom_semantics.specs.Whitespace.{collapsed, is_white_space};
+ghost use Rattle.dom_semantics.specs.Changes.{text_refusal, with_text};
 ghost use Rattle.small_eval.specs.Heads.{IsHeaded};
 ghost use Rattle.small_eval.specs.Words.{Reads, begun_by, kept, spaced};
 
 use base_text::{Mem, NoMemory, Text, TextFault};
-use dom_tree::{NodeForm, NodeId, Tree, TreeFault};
+use dom_tree::{NodeForm, NodeId, TREE_LEVELS, Tree, TreeFault};
 use door::{Actor, ErrorKind};
 use std::alloc::Global;
 
@@ -25,8 +26,8 @@ struct Words {
     gap: bool,
 }
 
-fn is_white(c: char) -> bool
-    ensures { result ≡ is_white c }
+fn is_white_space(c: char) -> bool
+    ensures { result ≡ is_white_space c }
 {
     matches!(c, '\t' | '\n' | '\u{c}' | '\r' | ' ')
 }
@@ -48,9 +49,9 @@ fn push_spaced(text: &mut String, between: bool, c: char) -> Mem<()>
 fn push(words: &mut Words, c: char) -> Mem<()>
     ensures text { OnOk result (string_bytes words.new.text ≡ string_bytes words.old.text ++ encode_utf8_all (kept words.old.begun words.old.gap c)) }
     ensures begun { OnOk result (words.new.begun ≡ begun_by words.old.begun c) }
-    ensures gap { OnOk result (words.new.gap ≡ is_white c) }
+    ensures gap { OnOk result (words.new.gap ≡ is_white_space c) }
 {
-    if is_white(c) {
+    if is_white_space(c) {
         words.gap = true;
         return Ok(());
     }
@@ -101,16 +102,13 @@ fn is_title(tree: &Tree, node: u32) -> bool
     }
 }
 
-/// The levels of a tree: no node is over 256 steps below its root.
-const LEVELS: u32 = 257;
-
 /// The title element: the first in tree order.
 pub fn title_element(tree: &Tree) -> Option<u32>
     ensures found { result ≡ title_element tree.now }
     ensures known { IfSome result (λ n. n < length tree.now) }
 {
     let _some = tree.count();
-    first_title(tree, 0, LEVELS)
+    first_title(tree, 0, TREE_LEVELS)
 }
 
 /// The document's title, stripped and collapsed, or the empty text where there is no title element.
@@ -130,9 +128,9 @@ pub fn title_of(alloc: Global, tree: &Tree) -> Result<Text, TextFault>
 /// The texts directly in a node, stripped and collapsed as one text.
 fn told(alloc: Global, tree: &Tree, node: u32) -> Result<Text, TextFault>
     requires { node < length tree.now }
-    ensures ok { IfOk result (λ text. text ≡ collapsed false false (child_text tree.now node)) }
+    ensures ok { IfOk result (λ text. text ≡ collapsed (child_text tree.now node)) }
     ensures short { IfOk result (λ text. utf8_len text ≤ TEXT_LIMIT) }
-    ensures too_long { IsErrOf result TextFault.TooLong → TEXT_LIMIT < utf8_len (collapsed false false (child_text tree.now node)) }
+    ensures too_long { IsErrOf result TextFault.TooLong → TEXT_LIMIT < utf8_len (collapsed (child_text tree.now node)) }
 {
     match words_in(alloc, tree, node) {
         Ok(words) => Text::of(alloc, words.text.as_str()),
@@ -142,7 +140,7 @@ fn told(alloc: Global, tree: &Tree, node: u32) -> Result<Text, TextFault>
 
 fn words_in(alloc: Global, tree: &Tree, node: u32) -> Mem<Words>
     requires { node < length tree.now }
-    ensures { IfOk result (λ words. string_bytes words.text ≡ encode_utf8_all (collapsed false false (child_text tree.now node))) }
+    ensures { IfOk result (λ words. string_bytes words.text ≡ encode_utf8_all (collapsed (child_text tree.now node))) }
 {
     let mut words = Words {
         text: String::new(alloc),

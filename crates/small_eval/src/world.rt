@@ -1,19 +1,17 @@
 //! The world: the journal, and the document that its marks make.
 
 ghost use Rattle.std.specs.Prelude.{◌≡◌, ◌<◌, [], ◌∷◌, ◌++◌, length, OnOk, OnErr, IfOk};
+ghost use Rattle.door.specs.declared.limits.TheConstants.{MARK_LIMIT};
 ghost use Rattle.door.specs.declared.marks.Mark.TheVariants.{Turn};
 ghost use Rattle.solo_model.specs.Closed.{Setups};
-ghost use Rattle.small_eval.specs.Follows.{Adds};
+ghost use Rattle.small_eval.specs.Continuations.{Adds};
 ghost use Rattle.small_eval.specs.Idle.{AreIdle};
 ghost use Rattle.small_eval.specs.Worlds.{IsReady, IsSound};
 
 use base_text::{Mem, NoMemory};
 use dom_tree::Tree;
-use door::{Journal, JournalFault, Mark, Task};
+use door::{Journal, JournalFault, MARK_LIMIT, Mark, Task};
 use std::alloc::Global;
-
-/// The most marks of a run.
-pub const MARK_LIMIT: u32 = 4_000_000;
 
 /// The journal of a run, and the document as its marks make it.
 #[derive(Drop)]
@@ -31,9 +29,9 @@ pub struct World {
 impl World {
     /// The document alone, before the first mark.
     pub fn new(alloc: Global) -> Mem<World>
-        ensures sound { IfOk result (λ w. IsSound w) }
-        ensures journal { IfOk result (λ w. w.journal ≡ record { marks = []; limit = MARK_LIMIT }) }
-        ensures own { IfOk result (λ w. w.own.items ≡ 0 ∷ []) }
+        ensures sound { IfOk result (λ world. IsSound world) }
+        ensures journal { IfOk result (λ world. world.journal ≡ record { marks = []; limit = MARK_LIMIT }) }
+        ensures own { IfOk result (λ world. world.own.items ≡ 0 ∷ []) }
     {
         let tree = Tree::new(alloc)?;
         let mut own = Vec::new(alloc);
@@ -48,27 +46,27 @@ impl World {
 }
 
 /// The next turn begins.
-pub fn turn(w: &mut World, task: Task) -> Mem<()>
-    requires sound { IsSound w.old }
-    requires room { length w.old.journal.marks < w.old.journal.limit }
-    ensures added { OnOk result (Adds w.old.journal w.new.journal (Turn task ∷ [])) }
-    ensures sound { OnOk result (IsSound w.new) }
-    ensures same { OnOk result ((w.new.tree ≡ w.old.tree) × (w.new.own ≡ w.old.own)) }
-    ensures idle { (setups : Setups) → AreIdle setups w.old.journal.marks → OnOk result (AreIdle setups w.new.journal.marks) }
+pub fn turn(world: &mut World, task: Task) -> Mem<()>
+    requires sound { IsSound world.old }
+    requires room { length world.old.journal.marks < world.old.journal.limit }
+    ensures added { OnOk result (Adds world.old.journal world.new.journal (Turn task ∷ [])) }
+    ensures sound { OnOk result (IsSound world.new) }
+    ensures same { OnOk result ((world.new.tree ≡ world.old.tree) × (world.new.own ≡ world.old.own)) }
+    ensures idle { (setups : Setups) → AreIdle setups world.old.journal.marks → OnOk result (AreIdle setups world.new.journal.marks) }
 {
-    note(w, Mark::Turn(task))?;
+    note(world, Mark::Turn(task))?;
     Ok(())
 }
 
 /// Adds a mark for which the document is ready, to a journal that has room for it.
-pub fn note(w: &mut World, mark: Mark) -> Mem<()>
-    requires ready { IsReady w.old mark }
-    requires room { length w.old.journal.marks < w.old.journal.limit }
-    ensures ok { OnOk result (w.new ≡ record w.old { journal = record w.old.journal { marks = w.old.journal.marks ++ mark ∷ [] } }) }
-    ensures err { OnErr result (w.new ≡ w.old) }
-    ensures sound { OnOk result (IsSound w.new) }
+pub fn note(world: &mut World, mark: Mark) -> Mem<()>
+    requires ready { IsReady world.old mark }
+    requires room { length world.old.journal.marks < world.old.journal.limit }
+    ensures ok { OnOk result (world.new ≡ record world.old { journal = record world.old.journal { marks = world.old.journal.marks ++ mark ∷ [] } }) }
+    ensures err { OnErr result (world.new ≡ world.old) }
+    ensures sound { OnOk result (IsSound world.new) }
 {
-    match w.journal.push(mark) {
+    match world.journal.push(mark) {
         Ok(()) => Ok(()),
         Err(JournalFault::NoMemory) => Err(NoMemory),
         Err(JournalFault::Full) => unreachable!(),

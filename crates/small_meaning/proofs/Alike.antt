@@ -5,17 +5,17 @@ use Rattle.door.specs.declared.requests.Request.{Request}
 use Rattle.door.specs.declared.requests.Answer.{Answer}
 use Rattle.door.specs.declared.requests.ErrorKind.{ErrorKind}
 use Rattle.door.specs.declared.marks.StopKind.{StopKind}
-use Rattle.script_meaning.specs.Evaluator.{error_cell, fails_by, made_within}
-use Rattle.script_meaning.specs.Evaluator as ev
-use Rattle.script_meaning.specs.Faults.{Fault, fitting}
-use Rattle.script_meaning.specs.Intrinsics.{Setup, fresh}
-use Rattle.script_meaning.specs.Machine.{Machine, Cell, MetThing, Own, Refers, here_or_none}
-use Rattle.script_meaning.specs.Meaning.{thrown_by_cell, thrown_by_form, thrown_text}
-use Rattle.script_meaning.specs.Solo.{Tree, Asks, Tells, Fails}
+use Rattle.js_semantics.specs.Evaluator.{error_cell, fails_by, made_within}
+use Rattle.js_semantics.specs.Evaluator as ev
+use Rattle.js_semantics.specs.Faults.{Fault, fitting}
+use Rattle.js_semantics.specs.Intrinsics.{Setup, fresh}
+use Rattle.js_semantics.specs.Machine.{Machine, Cell, MetThing, Own, Refers, here_or_none}
+use Rattle.js_semantics.specs.Meaning.{thrown_by_cell, thrown_by_form, thrown_text}
+use Rattle.js_semantics.specs.Solo.{Program, Asks, Emits, Stuck}
 use Rattle.small_meaning.specs.Errors.{error_text}
 use Rattle.small_meaning.specs.Rows.{Bare}
 use Rattle.small_meaning.specs.Rows as small
-use Rattle.script_meaning.specs.Entries.{LEVELS}
+use Rattle.js_semantics.specs.Entries.{LEVELS}
 use Rattle.small_meaning.specs.Shows.{FitsAnswer}
 
 -- ---- the machine
@@ -88,19 +88,19 @@ ready_less setup least k m r = record {
 -- ---- trees
 
 -- they ask for the same, they say the same and are left on a machine with room for so many errors
-unfoldable pub Alike : Setup → ℕ → Tree Bare → Tree Machine → Type 0
+unfoldable pub Alike : Setup → ℕ → Program Bare → Program Machine → Type 0
 Alike setup k (Asks request next) tree =
-    (then : Answer → Tree Machine) × (tree ≡ Asks request then) × ((answer : Answer) → FitsAnswer answer → Alike setup k (next answer) (then answer))
-Alike setup k (Tells act levels m back) tree =
-    (left : Machine) × Ready setup false k left × (tree ≡ Tells act LEVELS left (λ m answer. Fails)) × (levels ≡ LEVELS) × ((answer : Answer) → back m answer ≡ Fails)
-Alike setup k Fails tree = Unit {0}
+    (then : Answer → Program Machine) × (tree ≡ Asks request then) × ((answer : Answer) → FitsAnswer answer → Alike setup k (next answer) (then answer))
+Alike setup k (Emits act levels m back) tree =
+    (left : Machine) × Ready setup false k left × (tree ≡ Emits act LEVELS left (λ m answer. Stuck)) × (levels ≡ LEVELS) × ((answer : Answer) → back m answer ≡ Stuck)
+Alike setup k Stuck tree = Unit {0}
 
-pub asks_alike : (setup : Setup) (k : ℕ) (request : Request) (next : Answer → Tree Bare) (then : Answer → Tree Machine) → ((answer : Answer) → FitsAnswer answer → Alike setup k (next answer) (then answer))
+pub asks_alike : (setup : Setup) (k : ℕ) (request : Request) (next : Answer → Program Bare) (then : Answer → Program Machine) → ((answer : Answer) → FitsAnswer answer → Alike setup k (next answer) (then answer))
     → Alike setup k (Asks request next) (Asks request then)
 unfolding Alike
 asks_alike setup k request next then h = (then, refl, h)
 
-pub fails_alike : (setup : Setup) (k : ℕ) (tree : Tree Machine) → Alike setup k Fails tree
+pub fails_alike : (setup : Setup) (k : ℕ) (tree : Program Machine) → Alike setup k Stuck tree
 unfolding Alike
 fails_alike setup k tree = tt
 

@@ -4,11 +4,11 @@ use Rattle.std.specs.Char.{encode_utf8}
 use Rattle.door.specs.declared.grants.GrantSet.{GrantSet}
 use Rattle.door.specs.declared.zones.Zone.TheVariants.{Page, XrayScript}
 use Rattle.door.specs.declared.members.Member.TheVariants.{WindowDocument, DocumentTitle, DocumentSetTitle, GmLog, ConsoleLog}
-use Rattle.script_meaning.specs.Builtin.{Asks}
-use Rattle.script_meaning.specs.Calls.{form_of_cell}
-use Rattle.script_meaning.specs.Intrinsics.{Setup, fresh}
-use Rattle.script_meaning.specs.Machine.{Cell, Form, Native, Reference, Own, Thing, Refers, Property, Datum, Accessor, MetThing, here_or_none}
-use Rattle.script_meaning.specs.Members.{own_of_cell, own_of_thing, prototype_of_cell, prototype_of_thing}
+use Rattle.js_semantics.specs.Builtin.{Asks}
+use Rattle.js_semantics.specs.Calls.{form_of_cell}
+use Rattle.js_semantics.specs.Intrinsics.{Setup, fresh}
+use Rattle.js_semantics.specs.Machine.{Cell, Form, Native, Reference, Own, Thing, Refers, Property, Datum, Accessor, MetThing, here_or_none}
+use Rattle.js_semantics.specs.Members.{own_of_cell, own_of_thing, prototype_of_cell, prototype_of_thing}
 
 abbrev pub own_at : List (Option Cell) → ℕ → List ℕ → Option Property
 own_at cells place key = own_of_cell (here_or_none (slice_get cells place)) key

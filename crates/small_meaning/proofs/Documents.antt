@@ -15,20 +15,20 @@ use Rattle.door.specs.declared.requests.ErrorKind.TheVariants as kind
 use Rattle.door.specs.declared.requests.Request.TheVariants.{Native as NativeRequest}
 use Rattle.door.specs.declared.requests.Answer.{Answer}
 use Rattle.door.specs.declared.requests.Answer.TheVariants.{Value as ValueAnswer, Throw as ThrowAnswer}
-use Rattle.script_meaning.specs.Builtin.{Builtin, Asks}
-use Rattle.script_meaning.specs.Calls.{called_form}
-use Rattle.script_meaning.specs.Evaluator.{Evaluator, choose, error_cell, fails_by, Gives}
-use Rattle.script_meaning.specs.Evaluator as ev
-use Rattle.script_meaning.specs.Faults.{Fault, fitting, refusal_fault, text_too_long}
-use Rattle.script_meaning.specs.Intrinsics.{Setup, fresh}
-use Rattle.script_meaning.specs.Machine.{Machine, MetThing, Native, Own, Thing, Value, Refers, Property, Accessor, global_in, global_of}
-use Rattle.script_meaning.specs.Meaning.{evaluator, at_top, thrown_by_form}
-use Rattle.script_meaning.specs.Members.{Stands, found, read_row}
-use Rattle.script_meaning.specs.Names.{bound_name_row, global_name_row, missing_throws, name_row}
-use Rattle.script_meaning.specs.Natives.{native_row}
-use Rattle.script_meaning.specs.Operations.{is_same_reference}
-use Rattle.script_meaning.specs.Requests.{OfKind, answered_row, door_thing, met_next, met_within, misfit, request_row, window_or}
-use Rattle.script_meaning.specs.Solo.{Tree}
+use Rattle.js_semantics.specs.Builtin.{Builtin, Asks}
+use Rattle.js_semantics.specs.Calls.{called_form}
+use Rattle.js_semantics.specs.Evaluator.{Evaluator, choose, error_cell, fails_by, Gives}
+use Rattle.js_semantics.specs.Evaluator as ev
+use Rattle.js_semantics.specs.Faults.{Fault, fitting, refusal_fault, text_too_long}
+use Rattle.js_semantics.specs.Intrinsics.{Setup, fresh}
+use Rattle.js_semantics.specs.Machine.{Machine, MetThing, Native, Own, Thing, Value, Refers, Property, Accessor, global_in, global_of}
+use Rattle.js_semantics.specs.Meaning.{evaluator, at_top, thrown_by_form}
+use Rattle.js_semantics.specs.Members.{Stands, found, read_row}
+use Rattle.js_semantics.specs.Names.{bound_name_row, global_name_row, missing_throws, name_row}
+use Rattle.js_semantics.specs.Natives.{native_row}
+use Rattle.js_semantics.specs.Operations.{is_same_reference}
+use Rattle.js_semantics.specs.Requests.{OfKind, answered_row, door_thing, met_next, met_within, misfit, request_row, window_or}
+use Rattle.js_semantics.specs.Solo.{Program}
 use Rattle.small_meaning.specs.Errors.{error_text}
 use Rattle.small_meaning.specs.Rows.{Bare}
 use Rattle.small_meaning.specs.Rows as small
@@ -98,7 +98,7 @@ pub count_met : (setup : Setup) (least : Bool) (k : ℕ) (m : Machine) → Begin
 count_met setup least k m b r = ap length r.things ∙ length-append (fresh setup).things (met_things r.met) ∙ ap (λ n. n + length (met_things r.met)) b.things
 
 -- the document is met, if it isn't yet
-document_met : (setup : Setup) (k : ℕ) (least : Bool) (tree : Tree Bare) (d : ev.Cont) (m : Machine) (f : ℕ) → Begins setup → Ready setup least (suc k) m
+document_met : (setup : Setup) (k : ℕ) (least : Bool) (tree : Program Bare) (d : ev.Cont) (m : Machine) (f : ℕ) → Begins setup → Ready setup least (suc k) m
     → ((m : Machine) → Ready setup true (suc k) m → Alike setup k tree (d (Gives (Refers (Thing 1))) m f))
     → Alike setup k tree (answered_row (OfKind Document) (ValueAnswer (door.Thing (thing_of Document 1))) m f d)
 document_met setup k least tree d m f b r h = by_met r.met refl
@@ -135,7 +135,7 @@ document_met setup k least tree d m f b r h = by_met r.met refl
         let low : unmet r.met ≡ 1 = ap unmet e in
         subst P (sym long) (met_first m.room e (omega (arith, low, r.room)) long)
 
-document_answered : (setup : Setup) (k : ℕ) (least : Bool) (next : DoorThing → ℕ → Tree Bare) (c : small.Cont) (d : ev.Cont) (m : Machine) → Begins setup → Stops setup k least c d → Ready setup least (suc k) m
+document_answered : (setup : Setup) (k : ℕ) (least : Bool) (next : DoorThing → ℕ → Program Bare) (c : small.Cont) (d : ev.Cont) (m : Machine) → Begins setup → Stops setup k least c d → Ready setup least (suc k) m
     → ((m : Machine) (left : ℕ) → Ready setup true (suc k) m → Alike setup k (next (thing_of Document 1) left) (d (Gives (Refers (Thing 1))) m left))
     → (answer : Answer) → FitsAnswer answer → (left : ℕ) → Alike setup k (small.with_document next c answer left) (answered_row (OfKind Document) answer m left d)
 document_answered setup k least next c d m b s r h (ValueAnswer (door.Thing thing)) fits left =
@@ -146,11 +146,11 @@ document_answered setup k least next c d m b s r h (ValueAnswer value) fits left
 document_answered setup k least next c d m b s r h answer fits left = fails_alike setup k (answered_row (OfKind Document) answer m left d)
 
 -- the name `document`, once its unit is charged
-pub document_asked : (setup : Setup) (k : ℕ) (least : Bool) (n : ℕ) (next : DoorThing → ℕ → Tree Bare) (c : small.Cont) (d : ev.Cont) (m : Machine) (f : ℕ) → Begins setup → Stops setup k least c d → Ready setup least (suc k) m
+pub document_asked : (setup : Setup) (k : ℕ) (least : Bool) (n : ℕ) (next : DoorThing → ℕ → Program Bare) (c : small.Cont) (d : ev.Cont) (m : Machine) (f : ℕ) → Begins setup → Stops setup k least c d → Ready setup least (suc k) m
     → ((m : Machine) (left : ℕ) → Ready setup true (suc k) m → Alike setup k (next (thing_of Document 1) left) (d (Gives (Refers (Thing 1))) m left))
     → Alike setup k (small.ask (NativeRequest WindowDocument the_window []) (small.with_document next c) c f) (name_row (evaluator (suc n)) missing_throws (codes "document") at_top m f d)
 document_asked setup k least n next c d m f b s r h =
-    let P : Tree Machine → Type 0 = λ tree. Alike setup k (small.ask (NativeRequest WindowDocument the_window []) (small.with_document next c) c f) tree in
+    let P : Program Machine → Type 0 = λ tree. Alike setup k (small.ask (NativeRequest WindowDocument the_window []) (small.with_document next c) c f) tree in
     subst P (sym (asks_document n m f d setup (ready_knows setup least (suc k) m b r)))
     (ask_alike setup k least (NativeRequest WindowDocument the_window []) (small.with_document next c) c (λ answer m f. answered_row (OfKind Document) answer m f d) d m f s r
     (document_answered setup k least next c d m b s r h))

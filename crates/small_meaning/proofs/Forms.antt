@@ -8,15 +8,15 @@ use Rattle.js_syntax.specs.declared.tree.Expr.TheOpen as o
 use Rattle.js_syntax.specs.declared.tree.Expr.TheBlock as b
 use Rattle.js_syntax.specs.declared.tree.Stmt.{Stmt, out-Stmt}
 use Rattle.js_syntax.specs.declared.tree.Stmt.TheVariants as st
-use Rattle.script_meaning.specs.Evaluator.{With}
-use Rattle.script_meaning.specs.Evaluator as ev
-use Rattle.script_meaning.specs.Expressions.{callee_row, expr_row}
-use Rattle.script_meaning.specs.Forms.{ExprForm, StmtForm}
-use Rattle.script_meaning.specs.Intrinsics.{Setup}
-use Rattle.script_meaning.specs.Machine.{Machine, Value}
-use Rattle.script_meaning.specs.Meaning.{evaluator, at_top}
-use Rattle.script_meaning.specs.Solo.{Tree}
-use Rattle.script_meaning.specs.Statements.{stmt_row}
+use Rattle.js_semantics.specs.Evaluator.{With}
+use Rattle.js_semantics.specs.Evaluator as ev
+use Rattle.js_semantics.specs.Expressions.{callee_row, expr_row}
+use Rattle.js_semantics.specs.Forms.{ExprForm, StmtForm}
+use Rattle.js_semantics.specs.Intrinsics.{Setup}
+use Rattle.js_semantics.specs.Machine.{Machine, Value}
+use Rattle.js_semantics.specs.Meaning.{evaluator, at_top}
+use Rattle.js_semantics.specs.Solo.{Program}
+use Rattle.js_semantics.specs.Statements.{stmt_row}
 use Rattle.small_meaning.specs.Rows.{Bare}
 use Rattle.small_meaning.specs.Rows as small
 use Rattle.small_meaning.proofs.Alike.{Alike, Ready, Stops}
@@ -56,21 +56,21 @@ expression_form e = refl
 
 -- ---- a unit, and then the row of the form
 
-pub expr_charged : (setup : Setup) (k : ℕ) (least : Bool) (n : ℕ) (e : Expr) (x : ExprForm) (next : ℕ → Tree Bare) (c : small.Cont) (d : ev.Cont) (m : Machine) (f : ℕ) → out-Expr e ≡ x → Stops setup k least c d → Ready setup least (suc k) m
+pub expr_charged : (setup : Setup) (k : ℕ) (least : Bool) (n : ℕ) (e : Expr) (x : ExprForm) (next : ℕ → Program Bare) (c : small.Cont) (d : ev.Cont) (m : Machine) (f : ℕ) → out-Expr e ≡ x → Stops setup k least c d → Ready setup least (suc k) m
     → ((left : ℕ) → Alike setup k (next left) (expr_row (evaluator n) x at_top m left d)) → Alike setup k (small.charge 1 next c f) ((evaluator (suc n)).expr e at_top m f d)
 unfolding evaluator
 expr_charged setup k least n e x next c d m f form s r h =
     charge_alike setup k least 1 next c (λ m f. expr_row (evaluator n) (out-Expr e) at_top m f d) d m f s r
     (λ left. let P : ExprForm → Type 0 = λ x. Alike setup k (next left) (expr_row (evaluator n) x at_top m left d) in subst P (sym form) (h left))
 
-pub callee_charged : (setup : Setup) (k : ℕ) (least : Bool) (n : ℕ) (e : Expr) (x : ExprForm) (next : ℕ → Tree Bare) (c : small.Cont) (rest : With (Value × Value)) (d : ev.Cont) (m : Machine) (f : ℕ) → out-Expr e ≡ x → Stops setup k least c d → Ready setup least (suc k) m
+pub callee_charged : (setup : Setup) (k : ℕ) (least : Bool) (n : ℕ) (e : Expr) (x : ExprForm) (next : ℕ → Program Bare) (c : small.Cont) (rest : With (Value × Value)) (d : ev.Cont) (m : Machine) (f : ℕ) → out-Expr e ≡ x → Stops setup k least c d → Ready setup least (suc k) m
     → ((left : ℕ) → Alike setup k (next left) (callee_row (evaluator n) x at_top rest m left d)) → Alike setup k (small.charge 1 next c f) ((evaluator (suc n)).callee e at_top rest m f d)
 unfolding evaluator
 callee_charged setup k least n e x next c rest d m f form s r h =
     charge_alike setup k least 1 next c (λ m f. callee_row (evaluator n) (out-Expr e) at_top rest m f d) d m f s r
     (λ left. let P : ExprForm → Type 0 = λ x. Alike setup k (next left) (callee_row (evaluator n) x at_top rest m left d) in subst P (sym form) (h left))
 
-pub stmt_charged : (setup : Setup) (k : ℕ) (least : Bool) (n : ℕ) (y : Stmt) (x : StmtForm) (next : ℕ → Tree Bare) (c : small.Cont) (d : ev.Cont) (m : Machine) (f : ℕ) → out-Stmt y ≡ x → Stops setup k least c d → Ready setup least (suc k) m
+pub stmt_charged : (setup : Setup) (k : ℕ) (least : Bool) (n : ℕ) (y : Stmt) (x : StmtForm) (next : ℕ → Program Bare) (c : small.Cont) (d : ev.Cont) (m : Machine) (f : ℕ) → out-Stmt y ≡ x → Stops setup k least c d → Ready setup least (suc k) m
     → ((left : ℕ) → Alike setup k (next left) (stmt_row (evaluator n) x at_top m left d)) → Alike setup k (small.charge 1 next c f) ((evaluator (suc n)).stmt y at_top m f d)
 unfolding evaluator
 stmt_charged setup k least n y x next c d m f form s r h =

@@ -9,5 +9,5 @@ pub mod Forms
 pub mod Sums
 pub mod Lines
 pub mod Solos
-pub mod Standing
+pub mod Reaching
 pub mod Shown

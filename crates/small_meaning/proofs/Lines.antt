@@ -15,31 +15,31 @@ use Rattle.js_syntax.specs.declared.tree.Expr.TheOpen as o
 use Rattle.js_syntax.specs.declared.tree.Expr.TheBlock as b
 use Rattle.js_syntax.specs.declared.tree.Stmt.{Stmt, out-Stmt}
 use Rattle.js_syntax.specs.declared.tree.Stmt.TheVariants as st
-use Rattle.js_syntax.specs.Scripts.{LEVEL_LIMIT}
+use Rattle.js_syntax.specs.declared.limits.TheConstants.{LEVEL_LIMIT}
 use Rattle.small_forms.specs.declared.script.Sum.{Sum}
 use Rattle.small_forms.specs.declared.script.Line.{Line}
 use Rattle.small_forms.specs.declared.script.Line.TheVariants.{Log, SetTitle}
-use Rattle.script_meaning.specs.Bodies.{all_of, functions, joined, own_functions, own_names, var_names, within}
-use Rattle.script_meaning.specs.Builtin.{Asks}
-use Rattle.script_meaning.specs.Entries as language
-use Rattle.script_meaning.specs.Evaluator.{Evaluator, Gives, Ends, With, bind, follow, list_row, unvalued}
-use Rattle.script_meaning.specs.Evaluator as ev
-use Rattle.script_meaning.specs.Expressions.{assign_row, with_base}
-use Rattle.script_meaning.specs.Functions.{block_row, declare_functions_row, script_row}
-use Rattle.script_meaning.specs.Intrinsics.{Setup}
-use Rattle.script_meaning.specs.Machine.{Machine, Own, Thing, Value, Refers, Datum, undefined}
-use Rattle.script_meaning.specs.Meaning.{evaluator, at_top, script_entry, thrown_text, with_level}
-use Rattle.script_meaning.specs.Meaning as meaning
-use Rattle.script_meaning.specs.Members.{Stands, chain_bound, found, found_within, read_row}
-use Rattle.script_meaning.specs.Names.{declare_vars_row, missing_throws, name_row}
-use Rattle.script_meaning.specs.Requests.{log_row}
-use Rattle.script_meaning.specs.Solo.{Act, Tree, Tells, Fails, Leaves}
-use Rattle.script_meaning.specs.Targets.{ToMember, write_target_row}
+use Rattle.js_semantics.specs.Bodies.{all_of, functions, joined, own_functions, own_names, var_names, within}
+use Rattle.js_semantics.specs.Builtin.{Asks}
+use Rattle.js_semantics.specs.Entries as language
+use Rattle.js_semantics.specs.Evaluator.{Evaluator, Gives, Ends, With, bind, follow, list_row, unvalued}
+use Rattle.js_semantics.specs.Evaluator as ev
+use Rattle.js_semantics.specs.Expressions.{assign_row, with_base}
+use Rattle.js_semantics.specs.Functions.{block_row, declare_functions_row, script_row}
+use Rattle.js_semantics.specs.Intrinsics.{Setup}
+use Rattle.js_semantics.specs.Machine.{Machine, Own, Thing, Value, Refers, Datum, undefined}
+use Rattle.js_semantics.specs.Meaning.{evaluator, at_top, script_entry, thrown_text, with_level}
+use Rattle.js_semantics.specs.Meaning as meaning
+use Rattle.js_semantics.specs.Members.{Stands, chain_bound, found, found_within, read_row}
+use Rattle.js_semantics.specs.Names.{declare_vars_row, missing_throws, name_row}
+use Rattle.js_semantics.specs.Requests.{log_row}
+use Rattle.js_semantics.specs.Solo.{Act, Program, Emits, Stuck, Leaves}
+use Rattle.js_semantics.specs.Targets.{ToMember, write_target_row}
 use Rattle.small_meaning.specs.declared.prim.Prim.{Prim}
 use Rattle.small_meaning.specs.declared.prim.Prim.TheVariants.{Number as NumberPrim, Str as StrPrim}
 use Rattle.small_meaning.specs.Rows.{Bare}
 use Rattle.small_meaning.specs.Rows as small
-use Rattle.script_meaning.specs.Entries.{LEVELS}
+use Rattle.js_semantics.specs.Entries.{LEVELS}
 use Rattle.solo_model.specs.Things.{thing_of, the_window}
 use Rattle.small_scripts.specs.Trees.{body_of, line_stmt, log_function, sum_expr, title}
 use Rattle.small_forms.specs.Scripts.{sum_of}
@@ -58,13 +58,13 @@ abbrev pub EndsAlike : Setup → ℕ → Bool → small.Cont → ev.Cont → Typ
 EndsAlike setup k least c d = (m : Machine) (left : ℕ) → Ready setup least (suc k) m → Alike setup k (c small.Next left) (d Ends m left)
 
 -- two units, one after the other
-two_units : (setup : Setup) (k : ℕ) (units : ℕ) (next : ℕ → Tree Bare) (c : small.Cont) (f : ℕ) (tree : Tree Machine) → Alike setup k (small.charge 1 (small.charge units next c) c f) tree → Alike setup k (small.charge (1 + units) next c f) tree
-two_units setup k units next c f tree h = subst (λ (t : Tree Bare). Alike setup k t tree) (sym (charge_split 1 units next c f)) h
+two_units : (setup : Setup) (k : ℕ) (units : ℕ) (next : ℕ → Program Bare) (c : small.Cont) (f : ℕ) (tree : Program Machine) → Alike setup k (small.charge 1 (small.charge units next c) c f) tree → Alike setup k (small.charge (1 + units) next c f) tree
+two_units setup k units next c f tree h = subst (λ (t : Program Bare). Alike setup k t tree) (sym (charge_split 1 units next c f)) h
 
 -- ---- the title is set
 
 -- the target of an assignment to the title
-title_target : (setup : Setup) (k : ℕ) (e : Evaluator) (sum : Sum) (d : ev.Cont) (m : Machine) (f : ℕ) (tree : Tree Bare)
+title_target : (setup : Setup) (k : ℕ) (e : Evaluator) (sum : Sum) (d : ev.Cont) (m : Machine) (f : ℕ) (tree : Program Bare)
     → Alike setup k tree (e.expr (ex.Name (codes "document")) at_top m f (bind (λ base m f. e.expr (sum_expr sum) at_top m f (bind (λ value m f. write_target_row e (ToMember base (codes "title")) value at_top m f (follow (d (Gives value)) d)) d)) d))
     → Alike setup k tree (assign_row e title (sum_expr sum) at_top m f d)
 unfolding out-Expr out-Stmt out shown hidden b.shown-the_row-Expr-0 b.shown-the_row-Property-1 b.shown-the_row-Stmt-2 b.shown-the_row-Function-3 b.shown-the_row-Expr-4 b.shown-the_row-Declaration-5 b.shown-the_row-Stmt-6
@@ -76,7 +76,7 @@ title_line setup k least zero sum c d m f deep h b s r g = absurd (omega (arith,
 title_line setup k least (suc zero) sum c d m f deep h b s r g = absurd (omega (arith, deep))
 title_line setup k least (suc (suc n)) sum c d m f deep h b s r g =
     let writes : DoorThing → small.Cont = λ document. small.bind (λ value. small.written_row document value c) c in
-    let sums : DoorThing → ℕ → Tree Bare = λ document. small.sum_row sum (writes document) in
+    let sums : DoorThing → ℕ → Program Bare = λ document. small.sum_row sum (writes document) in
     let e : Evaluator = evaluator (suc (suc n)) in
     let plain : ev.Cont = unvalued d in
     let sets : Value → ev.Cont = λ base. bind (λ value m f. write_target_row e (ToMember base (codes "title")) value at_top m f (follow (plain (Gives value)) plain)) plain in
@@ -128,7 +128,7 @@ page_log setup k least (suc (suc n)) sum c d m f deep known h b s r g =
     let e : Evaluator = evaluator (suc (suc n)) in
     let plain : ev.Cont = unvalued d in
     let stops : Stops setup k least c plain = record { throws = s.throws; halts = s.halts } in
-    let sums : ℕ → Tree Bare = small.sum_row sum (small.bind (λ value. small.logged_row Page value c) c) in
+    let sums : ℕ → Program Bare = small.sum_row sum (small.bind (λ value. small.logged_row Page value c) c) in
     let called : With (Value × Value) = λ callee m f. list_row e (sum_expr sum ∷ []) at_top (λ values m f. e.call callee.0 callee.1 values m f plain) m f plain in
     let base : ev.Cont = bind (λ base m f. with_base (evaluator (suc n)) (ToMember base (codes "log")) at_top called m f plain) plain in
     two_units setup k 3 sums c f ((evaluator (suc (suc (suc (suc n))))).stmt (st.Expression call) at_top m f d)
@@ -138,11 +138,11 @@ page_log setup k least (suc (suc n)) sum c d m f deep known h b s r g =
     (λ f. two_units setup k 1 sums c f (e.callee (log_function Page) at_top called m f plain)
     (callee_charged setup k least (suc n) (log_function Page) (o.Member (ex.Name (codes "console")) (codes "log")) (small.charge 1 sums c) c called plain m f (member_form (ex.Name (codes "console")) (codes "log")) stops r
     (λ f. expr_charged setup k least n (ex.Name (codes "console")) (o.Name (codes "console")) sums c base m f (name_form (codes "console")) (record { throws = s.throws; halts = s.halts }) r
-    (λ f. let P : Tree Machine → Type 0 = λ tree. Alike setup k (sums f) tree in
+    (λ f. let P : Program Machine → Type 0 = λ tree. Alike setup k (sums f) tree in
     subst P (sym (console_callee setup (suc k) least n called plain m f known b r))
     (sum_alike setup k least sum (suc (suc n)) (small.bind (λ value. small.logged_row Page value c) c) (bind (λ value m f. e.call (Refers (Own 53)) (Refers (Own 52)) (value ∷ []) m f plain) plain) m f deep h b
     (record { throws = s.throws; halts = s.halts }) r
-    (λ value m f p r. let Q : Tree Machine → Type 0 = λ tree. Alike setup k (small.logged_row Page value c f) tree in
+    (λ value m f p r. let Q : Program Machine → Type 0 = λ tree. Alike setup k (small.logged_row Page value c f) tree in
     subst Q (sym (native_called (suc n) 53 (Asks ConsoleLog) (Refers (Own 52)) (value_of value ∷ []) m f plain (ready_knows setup least (suc k) m b r).members.asks_log))
     (console_log setup k least value c plain m f p stops r (λ f. g m f r)))))))))))
 
@@ -155,18 +155,18 @@ script_log setup k least (suc n) sum c d m f deep known h b s r g =
     let e : Evaluator = evaluator (suc n) in
     let plain : ev.Cont = unvalued d in
     let stops : Stops setup k least c plain = record { throws = s.throws; halts = s.halts } in
-    let sums : ℕ → Tree Bare = small.sum_row sum (small.bind (λ value. small.logged_row XrayScript value c) c) in
+    let sums : ℕ → Program Bare = small.sum_row sum (small.bind (λ value. small.logged_row XrayScript value c) c) in
     let called : With (Value × Value) = λ callee m f. list_row e (sum_expr sum ∷ []) at_top (λ values m f. e.call callee.0 callee.1 values m f plain) m f plain in
     two_units setup k 2 sums c f ((evaluator (suc (suc (suc n)))).stmt (st.Expression call) at_top m f d)
     (stmt_charged setup k least (suc (suc n)) (st.Expression call) (o.Stmt::Expression call) (small.charge 2 sums c) c d m f (expression_form call) s r
     (λ f. two_units setup k 1 sums c f ((evaluator (suc (suc n))).expr call at_top m f plain)
     (expr_charged setup k least (suc n) call (o.Call (log_function XrayScript) (sum_expr sum ∷ [])) (small.charge 1 sums c) c plain m f (call_form (log_function XrayScript) (sum_expr sum)) stops r
     (λ f. callee_charged setup k least n (log_function XrayScript) (o.Name (codes "GM_log")) sums c called plain m f (name_form (codes "GM_log")) stops r
-    (λ f. let P : Tree Machine → Type 0 = λ tree. Alike setup k (sums f) tree in
+    (λ f. let P : Program Machine → Type 0 = λ tree. Alike setup k (sums f) tree in
     subst P (sym (gm_callee n called plain m f known))
     (sum_alike setup k least sum (suc n) (small.bind (λ value. small.logged_row XrayScript value c) c) (bind (λ value m f. e.call (Refers (Own 55)) undefined (value ∷ []) m f plain) plain) m f deep h b
     (record { throws = s.throws; halts = s.halts }) r
-    (λ value m f p r. let Q : Tree Machine → Type 0 = λ tree. Alike setup k (small.logged_row XrayScript value c f) tree in
+    (λ value m f p r. let Q : Program Machine → Type 0 = λ tree. Alike setup k (small.logged_row XrayScript value c f) tree in
     subst Q (sym (native_called n 55 (Asks GmLog) undefined (value_of value ∷ []) m f plain (ready_knows setup least (suc k) m b r).members.asks_gm_log))
     (gm_log setup k least value c plain m f p stops r (λ f. g m f r)))))))))
 
@@ -233,28 +233,28 @@ script_is e zone lines m f d =
 -- ---- an entry
 
 -- what waits before an entry of the small machine
-pub record IsOutermost (levels : ℕ) (m : Bare) (back : Bare → Answer → Tree Bare) : Type 0 where
+pub record IsOutermost (levels : ℕ) (m : Bare) (back : Bare → Answer → Program Bare) : Type 0 where
   pub levels_are : levels ≡ LEVELS
-  pub over : (answer : Answer) → back m answer ≡ Fails
+  pub over : (answer : Answer) → back m answer ≡ Stuck
 
-says_alike : (setup : Setup) (k : ℕ) (act other : Act) (levels : ℕ) (bare : Bare) (back : Bare → Answer → Tree Bare) (m : Machine) → other ≡ act → IsOutermost levels bare back → Ready setup false k m
-    → Alike setup k (Tells act levels bare back) (Tells other LEVELS m (λ m answer. Fails))
+says_alike : (setup : Setup) (k : ℕ) (act other : Act) (levels : ℕ) (bare : Bare) (back : Bare → Answer → Program Bare) (m : Machine) → other ≡ act → IsOutermost levels bare back → Ready setup false k m
+    → Alike setup k (Emits act levels bare back) (Emits other LEVELS m (λ m answer. Stuck))
 unfolding Alike
-says_alike setup k act other levels bare back m same outer r = (m, r, ap (λ act. Tells act LEVELS m (λ m answer. Fails)) same, outer.levels_are, outer.over)
+says_alike setup k act other levels bare back m same outer r = (m, r, ap (λ act. Emits act LEVELS m (λ m answer. Stuck)) same, outer.levels_are, outer.over)
 
-leave_stops : (setup : Setup) (k : ℕ) (levels : ℕ) (bare : Bare) (back : Bare → Answer → Tree Bare) → IsOutermost levels bare back → Stops setup k false (small.leave levels bare back) (meaning.leave language.FUEL LEVELS (λ m answer. Fails))
+leave_stops : (setup : Setup) (k : ℕ) (levels : ℕ) (bare : Bare) (back : Bare → Answer → Program Bare) → IsOutermost levels bare back → Stops setup k false (small.leave levels bare back) (meaning.leave language.FUEL LEVELS (λ m answer. Stuck))
 leave_stops setup k levels bare back outer = record {
   throws = λ reason f m place r shown. says_alike setup k (Leaves (small.outcome_of (small.Throws reason)) (language.FUEL - f)) (Leaves (Throw (thrown_text m (Refers (Own place)))) (language.FUEL - f)) levels bare back m
       (ap (λ t. Leaves (Throw t) (language.FUEL - f)) shown) outer r;
   halts = λ stop f m r. says_alike setup k (Leaves (small.outcome_of (small.Halts stop)) (language.FUEL - f)) (Leaves (small.outcome_of (small.Halts stop)) (language.FUEL - f)) levels bare back m refl outer (ready_less setup false k m r);
 }
 
-pub entry_alike : (setup : Setup) (k : ℕ) (lines : List Line) (levels : ℕ) (bare : Bare) (back : Bare → Answer → Tree Bare) (m : Machine) → MayRun setup.zone setup.grants → AreSoundLines lines → Begins setup → IsOutermost levels bare back → Ready setup false (suc k) m
-    → Alike setup k (small.lines_row setup.zone lines (small.leave levels bare back) language.FUEL) (script_entry language.FUEL LEVELS (body_of setup.zone lines) m (λ m answer. Fails))
+pub entry_alike : (setup : Setup) (k : ℕ) (lines : List Line) (levels : ℕ) (bare : Bare) (back : Bare → Answer → Program Bare) (m : Machine) → MayRun setup.zone setup.grants → AreSoundLines lines → Begins setup → IsOutermost levels bare back → Ready setup false (suc k) m
+    → Alike setup k (small.lines_row setup.zone lines (small.leave levels bare back) language.FUEL) (script_entry language.FUEL LEVELS (body_of setup.zone lines) m (λ m answer. Stuck))
 unfolding with_level
 entry_alike setup k lines levels bare back m may h b outer r =
-    let d : ev.Cont = meaning.leave language.FUEL LEVELS (λ m answer. Fails) in
-    let P : Tree Machine → Type 0 = λ tree. Alike setup k (small.lines_row setup.zone lines (small.leave levels bare back) language.FUEL) tree in
+    let d : ev.Cont = meaning.leave language.FUEL LEVELS (λ m answer. Stuck) in
+    let P : Program Machine → Type 0 = λ tree. Alike setup k (small.lines_row setup.zone lines (small.leave levels bare back) language.FUEL) tree in
     let deep : 10 ≤ 477 = omega arith in
     subst P (sym (script_is (evaluator 479) setup.zone lines m language.FUEL d))
     (lines_alike setup k 477 lines (small.leave levels bare back) d m language.FUEL may deep h b (leave_stops setup k levels bare back outer) r

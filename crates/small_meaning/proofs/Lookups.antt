@@ -3,10 +3,10 @@ use Rattle.std.proofs.Common.{◌≡◌, ◌∙◌, refl, sym, subst, ap, ℕ, �
 use Rattle.door.specs.declared.grants.GrantSet.{GrantSet}
 use Rattle.door.specs.declared.zones.Zone.{Zone}
 use Rattle.door.specs.declared.zones.Zone.TheVariants.{Host, Page, XrayScript, PlainScript}
-use Rattle.script_meaning.specs.Intrinsics.{Setup, fresh}
-use Rattle.script_meaning.specs.Machine.{Machine, Cell, MetThing, Reference, Own, Thing, Refers, Property, Datum, Accessor, global_in, global_of}
-use Rattle.script_meaning.specs.Members.{Stands, found_within, found, chain_bound, own_property, prototype_of, along}
-use Rattle.script_meaning.specs.Names.{bound_within}
+use Rattle.js_semantics.specs.Intrinsics.{Setup, fresh}
+use Rattle.js_semantics.specs.Machine.{Machine, Cell, MetThing, Reference, Own, Thing, Refers, Property, Datum, Accessor, global_in, global_of}
+use Rattle.js_semantics.specs.Members.{Stands, found_within, found, chain_bound, own_property, prototype_of, along}
+use Rattle.js_semantics.specs.Names.{bound_within}
 use Rattle.small_meaning.specs.Shows.{MayRun}
 use Rattle.small_meaning.proofs.Cells.{HasMembers, HasPageNames, HasScriptNames, own_of_met, page_cells, page_members, page_names, page_of, page_room, page_things, script_cells, script_members, script_names, script_of, script_room, script_things}
 use Rattle.small_meaning.proofs.Alike.{Ready, met_things}

@@ -3,7 +3,7 @@ use Rattle.std.proofs.Common.{◌≡◌, ◌⊎◌, inl, inr, ap, sym, refl, sub
 use Prim.Native.Nat.{zero, suc}
 use Rattle.std.proofs.lemmas.Bool.Decides.{nat_tests}
 use Rattle.std.proofs.lemmas.List.{length-append}
-use Rattle.script_meaning.specs.Solo.{Dispatches, Leaves}
+use Rattle.js_semantics.specs.Solo.{Dispatches, Leaves}
 use Rattle.std.specs.List.{list_any, position_or_len}
 use Rattle.std.specs.Option.{option_map_or}
 use Rattle.base_text.specs.Scalars.{utf8_len}
@@ -27,13 +27,13 @@ use Rattle.door.specs.declared.marks.Task.{Task}
 use Rattle.door.specs.declared.marks.Task.TheVariants.{Piece as PieceTask, Ready, Start, Load}
 use Rattle.door.specs.declared.marks.Mark.{Mark}
 use Rattle.door.specs.declared.marks.Mark.TheVariants.{Turn, Build, Enter, Ask, Dispatch, Back, Leave, Serve, Served}
-use Rattle.door.specs.Changes.{is_empty, text_refusal}
-use Rattle.door.specs.Forest.{DEPTH_LIMIT, Forest, NODE_LIMIT, depth_of, form_at, is_element, made_by}
+use Rattle.dom_semantics.specs.Changes.{is_empty, text_refusal}
+use Rattle.dom_semantics.specs.Forest.{DEPTH_LIMIT, Forest, NODE_LIMIT, depth_of, form_at, is_element, made_by}
 use Rattle.solo_model.specs.Lawful.{AreAsksOf, AreBuilds, AreTurns, Input, IsEntry, IsScripted, IsTurn, Piece, placed_request, tasks_of, numbered, event_marks}
 use Rattle.solo_model.specs.Stage.{Stage, stage_of}
 use Rattle.solo_model.specs.Solo.{Answers, shows_of}
 use Rattle.solo_model.specs.Things.{the_document, the_page, the_window, thing_of, userscript}
-use Rattle.solo_model.specs.Titles.{append_refusal, new_nodes, title_of, title_refusal, title_element, head_element}
+use Rattle.dom_semantics.specs.Titles.{append_refusal, new_nodes, title_of, title_refusal, title_element, head_element}
 use Rattle.solo_model.specs.Truth.{IsGenuineAfter, answer_of, only_of, refused_or, text_answer}
 use Rattle.solo_model.specs.View.{Met, Seen, Entered, Asked, Said, Returned, event_spot, is_actor, meets_entry, named, named_entry, is_thing, meets_answer, meets_thing, named_answer, named_request, view_from}
 use Rattle.small_meaning.specs.Shows.{AreFit, FitsEntry, FitsShow, IsText, entries_in}

@@ -19,15 +19,15 @@ use Rattle.js_ops.specs.Operators.{joined}
 use Rattle.small_forms.specs.declared.script.Part.{Part}
 use Rattle.small_forms.specs.declared.script.Part.TheVariants.{Title, Number, Quoted}
 use Rattle.small_forms.specs.declared.script.Sum.{Sum}
-use Rattle.script_meaning.specs.Evaluator.{Gives, bind, text_units}
-use Rattle.script_meaning.specs.Evaluator as ev
-use Rattle.script_meaning.specs.Intrinsics.{Setup}
-use Rattle.script_meaning.specs.Machine.{Machine, Refers, Thing, text}
-use Rattle.script_meaning.specs.Meaning.{evaluator, at_top}
-use Rattle.script_meaning.specs.Operations.{answer_row, binary_row}
-use Rattle.script_meaning.specs.Primitives as prim
-use Rattle.script_meaning.specs.Solo.{Tree}
-use Rattle.script_meaning.specs.Targets.{read_target_row, ToMember}
+use Rattle.js_semantics.specs.Evaluator.{Gives, bind, text_units}
+use Rattle.js_semantics.specs.Evaluator as ev
+use Rattle.js_semantics.specs.Intrinsics.{Setup}
+use Rattle.js_semantics.specs.Machine.{Machine, Refers, Thing, text}
+use Rattle.js_semantics.specs.Meaning.{evaluator, at_top}
+use Rattle.js_semantics.specs.Operations.{answer_row, binary_row}
+use Rattle.js_semantics.specs.Primitives as prim
+use Rattle.js_semantics.specs.Solo.{Program}
+use Rattle.js_semantics.specs.Targets.{read_target_row, ToMember}
 use Rattle.small_meaning.specs.declared.prim.Prim.{Prim}
 use Rattle.small_meaning.specs.declared.prim.Prim.TheVariants.{Number as NumberPrim, Str as StrPrim}
 use Rattle.small_meaning.specs.Rows.{Bare, Addition, Lone, Plus}
@@ -51,7 +51,7 @@ GivesAlike setup k least most c d =
 -- ---- parts
 
 -- the name `document`
-pub document_alike : (setup : Setup) (k : ℕ) (least : Bool) (n : ℕ) (next : DoorThing → ℕ → Tree Bare) (c : small.Cont) (d : ev.Cont) (m : Machine) (f : ℕ) → Begins setup → Stops setup k least c d → Ready setup least (suc k) m
+pub document_alike : (setup : Setup) (k : ℕ) (least : Bool) (n : ℕ) (next : DoorThing → ℕ → Program Bare) (c : small.Cont) (d : ev.Cont) (m : Machine) (f : ℕ) → Begins setup → Stops setup k least c d → Ready setup least (suc k) m
     → ((m : Machine) (left : ℕ) → Ready setup true (suc k) m → Alike setup k (next (thing_of Document 1) left) (d (Gives (Refers (Thing 1))) m left))
     → Alike setup k (small.document_row next c f) ((evaluator (suc (suc n))).expr (ex.Name (codes "document")) at_top m f d)
 document_alike setup k least n next c d m f b s r h =
@@ -65,7 +65,7 @@ part_alike setup k least n (Number v) c d m f h b s r g =
 part_alike setup k least n (Quoted t) c d m f h b s r g =
     expr_charged setup k least (suc (suc n)) (ex.Str t) (o.Str t) (c (small.Gives (StrPrim t))) c d m f (text_form t) s r (λ left. g (StrPrim t) m left h r)
 part_alike setup k least n Title c d m f h b s r g =
-    let then_title : DoorThing → ℕ → Tree Bare = λ document. small.ask (NativeRequest DocumentTitle document []) (small.with_text (λ t. c (small.Gives (StrPrim t))) c) c in
+    let then_title : DoorThing → ℕ → Program Bare = λ document. small.ask (NativeRequest DocumentTitle document []) (small.with_text (λ t. c (small.Gives (StrPrim t))) c) c in
     let reads : ev.Cont = bind (λ base m f. read_target_row (evaluator (suc (suc n))) (ToMember base (codes "title")) at_top m f d) d in
     expr_charged setup k least (suc (suc n)) (ex.Member (ex.Name (codes "document")) (codes "title")) (o.Member (ex.Name (codes "document")) (codes "title")) (small.document_row then_title c) c d m f
     (member_form (ex.Name (codes "document")) (codes "title")) s r
@@ -131,7 +131,7 @@ addition_alike setup k least (Lone part) n c d m f deep low h b s r g = part_in 
 addition_alike setup k least (Plus left part) zero c d m f deep low h b s r g = absurd (omega (arith, deep))
 addition_alike setup k least (Plus left part) (suc n) c d m f deep low h b s r g =
     let after : Prim → small.Cont = λ x. small.bind (λ y. small.plus_row x y c) c in
-    let right : Prim → ℕ → Tree Bare = λ x. small.part_row part (after x) in
+    let right : Prim → ℕ → Program Bare = λ x. small.part_row part (after x) in
     let so : small.Cont = small.bind right c in
     let plus : ev.Cont = bind (λ x m f. (evaluator n).expr (part_expr part) at_top m f (bind (λ y m f. binary_row operator.Add x y m f d) d)) d in
     expr_charged setup k least n (ex.Binary operator.Add (addition_expr left) (part_expr part)) (o.Binary operator.Add (addition_expr left) (part_expr part)) (small.addition_row left so) c d m f

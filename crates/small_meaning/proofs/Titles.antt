@@ -10,16 +10,16 @@ use Rattle.door.specs.declared.members.Member.TheVariants.{DocumentTitle, Docume
 use Rattle.door.specs.declared.requests.Request.TheVariants.{Native as NativeRequest}
 use Rattle.door.specs.declared.requests.Answer.{Answer}
 use Rattle.door.specs.declared.requests.Answer.TheVariants.{Value as ValueAnswer, Throw as ThrowAnswer}
-use Rattle.script_meaning.specs.Builtin.{Asks}
-use Rattle.script_meaning.specs.Evaluator.{choose, fails_by, Gives, Ends, unvalued, text_units}
-use Rattle.script_meaning.specs.Evaluator as ev
-use Rattle.script_meaning.specs.Faults.{text_too_long}
-use Rattle.script_meaning.specs.Intrinsics.{Setup, fresh}
-use Rattle.script_meaning.specs.Machine.{Machine, Own, Thing, Value, Refers, Accessor, thing_at, undefined, text, number}
-use Rattle.script_meaning.specs.Meaning.{evaluator}
-use Rattle.script_meaning.specs.Members.{Stands, added_row, chain_bound, found, found_within, get_row, own_of_thing, own_property, prototype_of_thing, read_row, set_row, written_row}
-use Rattle.script_meaning.specs.Requests.{OfText, OfNothing, answered_row, door_thing, of_interface, request_row, text_argument, text_made}
-use Rattle.script_meaning.specs.Solo.{Tree}
+use Rattle.js_semantics.specs.Builtin.{Asks}
+use Rattle.js_semantics.specs.Evaluator.{choose, fails_by, Gives, Ends, unvalued, text_units}
+use Rattle.js_semantics.specs.Evaluator as ev
+use Rattle.js_semantics.specs.Faults.{text_too_long}
+use Rattle.js_semantics.specs.Intrinsics.{Setup, fresh}
+use Rattle.js_semantics.specs.Machine.{Machine, Own, Thing, Value, Refers, Accessor, thing_at, undefined, text, number}
+use Rattle.js_semantics.specs.Meaning.{evaluator}
+use Rattle.js_semantics.specs.Members.{Stands, added_row, chain_bound, found, found_within, get_row, own_of_thing, own_property, prototype_of_thing, read_row, set_row, written_row}
+use Rattle.js_semantics.specs.Requests.{OfText, OfNothing, answered_row, door_thing, of_interface, request_row, text_argument, text_made}
+use Rattle.js_semantics.specs.Solo.{Program}
 use Rattle.small_meaning.specs.declared.prim.Prim.{Prim}
 use Rattle.small_meaning.specs.declared.prim.Prim.TheVariants.{Number as NumberPrim, Str as StrPrim}
 use Rattle.small_meaning.specs.Rows.{Bare}
@@ -68,7 +68,7 @@ asks_title setup k n m f d b r =
     ∙ native_called n 92 (Asks DocumentTitle) (Refers (Thing 1)) [] m f d (ready_knows setup true k m b r).members.asks_title
     ∙ ap (λ thing. of_interface Document 1 thing (λ thing m f. request_row DocumentTitle thing [] OfText m f d) d m f) (met_at setup k m b r)
 
-title_answered : (setup : Setup) (k : ℕ) (least : Bool) (next : List ℕ → ℕ → Tree Bare) (c : small.Cont) (d : ev.Cont) (m : Machine) → Stops setup k least c d → Ready setup least (suc k) m
+title_answered : (setup : Setup) (k : ℕ) (least : Bool) (next : List ℕ → ℕ → Program Bare) (c : small.Cont) (d : ev.Cont) (m : Machine) → Stops setup k least c d → Ready setup least (suc k) m
     → ((t : List ℕ) → IsText t → (left : ℕ) → Alike setup k (next t left) (d (Gives (text t)) m left))
     → (answer : Answer) → FitsAnswer answer → (left : ℕ) → Alike setup k (small.with_text next c answer left) (answered_row OfText answer m left d)
 title_answered setup k least next c d m s r h (ValueAnswer (door.Str t)) fits left = h t fits left
@@ -76,11 +76,11 @@ title_answered setup k least next c d m s r h (ThrowAnswer reason) fits left = r
 title_answered setup k least next c d m s r h (ValueAnswer value) fits left = fails_alike setup k (answered_row OfText (ValueAnswer value) m left d)
 title_answered setup k least next c d m s r h answer fits left = fails_alike setup k (answered_row OfText answer m left d)
 
-pub title_asked : (setup : Setup) (k : ℕ) (n : ℕ) (next : List ℕ → ℕ → Tree Bare) (c : small.Cont) (d : ev.Cont) (m : Machine) (f : ℕ) → Begins setup → Stops setup k true c d → Ready setup true (suc k) m
+pub title_asked : (setup : Setup) (k : ℕ) (n : ℕ) (next : List ℕ → ℕ → Program Bare) (c : small.Cont) (d : ev.Cont) (m : Machine) (f : ℕ) → Begins setup → Stops setup k true c d → Ready setup true (suc k) m
     → ((t : List ℕ) → IsText t → (left : ℕ) → Alike setup k (next t left) (d (Gives (text t)) m left))
     → Alike setup k (small.ask (NativeRequest DocumentTitle (thing_of Document 1) []) (small.with_text next c) c f) (get_row (evaluator (suc n)) (Refers (Thing 1)) (codes "title") m f d)
 title_asked setup k n next c d m f b s r h =
-    let P : Tree Machine → Type 0 = λ tree. Alike setup k (small.ask (NativeRequest DocumentTitle (thing_of Document 1) []) (small.with_text next c) c f) tree in
+    let P : Program Machine → Type 0 = λ tree. Alike setup k (small.ask (NativeRequest DocumentTitle (thing_of Document 1) []) (small.with_text next c) c f) tree in
     subst P (sym (asks_title setup (suc k) n m f d b r))
     (ask_alike setup k true (NativeRequest DocumentTitle (thing_of Document 1) []) (small.with_text next c) c (λ answer m f. answered_row OfText answer m f d) d m f s r
     (title_answered setup k true next c d m s r h))
@@ -131,7 +131,7 @@ value_sent : (setup : Setup) (k : ℕ) (value : Prim) (c : small.Cont) (d : ev.C
     → Alike setup k (small.written_row (thing_of Document 1) value c f) (text_argument (value_of value) (λ t m f. request_row DocumentSetTitle (door_thing Document 1) (door.Str t ∷ []) OfNothing m f d) d m f)
 value_sent setup k (NumberPrim n) c d m f short s r h = text_made_sent setup k true DocumentSetTitle (thing_of Document 1) (decimal n) c d m f (number_text n (omega (arith, short))) s r h
 value_sent setup k (StrPrim t) c d m f short s r h =
-    let P : Tree Bare → Type 0 = λ tree. Alike setup k tree (request_row DocumentSetTitle (thing_of Document 1) (door.Str t ∷ []) OfNothing m f d) in
+    let P : Program Bare → Type 0 = λ tree. Alike setup k tree (request_row DocumentSetTitle (thing_of Document 1) (door.Str t ∷ []) OfNothing m f d) in
     subst P (sym (charge_none (small.ask (NativeRequest DocumentSetTitle (thing_of Document 1) (door.Str t ∷ [])) (small.with_nothing (c small.Next) c) c) c f))
     (text_sent setup k true DocumentSetTitle (thing_of Document 1) t c d m f s r h)
 
@@ -139,6 +139,6 @@ pub title_written : (setup : Setup) (k : ℕ) (n : ℕ) (value : Prim) (c : smal
     → ((left : ℕ) → Alike setup k (c small.Next left) (d Ends m left))
     → Alike setup k (small.written_row (thing_of Document 1) value c f) (set_row (evaluator (suc n)) (Refers (Thing 1)) (codes "title") (value_of value) m f d)
 title_written setup k n value c d m f short b s r h =
-    let P : Tree Machine → Type 0 = λ tree. Alike setup k (small.written_row (thing_of Document 1) value c f) tree in
+    let P : Program Machine → Type 0 = λ tree. Alike setup k (small.written_row (thing_of Document 1) value c f) tree in
     subst P (sym (sets_title setup (suc k) n (value_of value) m f d b r))
     (value_sent setup k value c (unvalued d) m f short (record { throws = s.throws; halts = s.halts }) r h)

@@ -1,4 +1,4 @@
 pub mod Errors
 pub mod Rows
-pub mod Stands
+pub mod Reached
 pub mod Shows

@@ -34,9 +34,9 @@ use Rattle.small_meaning.specs.declared.prim.Prim.{Prim}
 use Rattle.small_meaning.specs.declared.prim.Prim.TheVariants.{Number as NumberPrim, Str as StrPrim}
 use Rattle.small_meaning.specs.Errors.{error_text}
 use Rattle.solo_model.specs.Things.{the_window}
-use Rattle.script_meaning.specs.Intrinsics.{Setup}
-use Rattle.script_meaning.specs.Entries.{FUEL, LEVELS}
-use Rattle.script_meaning.specs.Solo.{Leaves, Tree, Asks, Tells, Fails, Point, Awaits, Entering}
+use Rattle.js_semantics.specs.Intrinsics.{Setup}
+use Rattle.js_semantics.specs.Entries.{FUEL, LEVELS}
+use Rattle.js_semantics.specs.Solo.{Leaves, Program, Asks, Emits, Stuck, State, Awaits, Entering}
 
 -- what the machine of these scripts holds: nothing that changes
 pub data Bare : Type 0 where
@@ -51,24 +51,24 @@ pub data Done : Type 0 where
 
 -- what follows an evaluation: of how it ended, and of the fuel that is left
 abbrev pub Cont : Type 0
-Cont = Done → ℕ → Tree Bare
+Cont = Done → ℕ → Program Bare
 
 -- goes on with a value, and passes on what is none
-abbrev pub bind : (Prim → ℕ → Tree Bare) → Cont → Cont
+abbrev pub bind : (Prim → ℕ → Program Bare) → Cont → Cont
 bind k c (Gives value) = k value
 bind k c Next = c Next
 bind k c (Throws reason) = c (Throws reason)
 bind k c (Halts stop) = c (Halts stop)
 
 -- goes on after a statement that ended at its end
-abbrev pub follow : (ℕ → Tree Bare) → Cont → Cont
+abbrev pub follow : (ℕ → Program Bare) → Cont → Cont
 follow k c (Gives value) = k
 follow k c Next = k
 follow k c (Throws reason) = c (Throws reason)
 follow k c (Halts stop) = c (Halts stop)
 
 -- units are charged; a charge above what is left uses all and stops
-unfoldable pub charge : ℕ → (ℕ → Tree Bare) → Cont → ℕ → Tree Bare
+unfoldable pub charge : ℕ → (ℕ → Program Bare) → Cont → ℕ → Program Bare
 charge units k c fuel = if nat_le units fuel then k (fuel - units) else c (Halts Fuel) 0
 
 -- the units of a text that is made
@@ -76,38 +76,38 @@ abbrev pub text_units : List ℕ → ℕ
 text_units text = (utf8_len text + 63) / 64
 
 -- a request is charged and made
-abbrev pub ask : Request → (Answer → ℕ → Tree Bare) → Cont → ℕ → Tree Bare
+abbrev pub ask : Request → (Answer → ℕ → Program Bare) → Cont → ℕ → Program Bare
 ask request k c = charge 1 (λ fuel. Asks request (λ given. k given fuel)) c
 
 -- goes on with a document
-abbrev pub of_document : Kind → Tree Bare → Tree Bare
+abbrev pub of_document : Kind → Program Bare → Program Bare
 of_document Document tree = tree
-of_document kind tree = Fails
+of_document kind tree = Stuck
 
 -- goes on with the document that is answered
-abbrev pub with_document : (Thing → ℕ → Tree Bare) → Cont → Answer → ℕ → Tree Bare
+abbrev pub with_document : (Thing → ℕ → Program Bare) → Cont → Answer → ℕ → Program Bare
 with_document k c (ValueAnswer (ThingValue thing)) fuel = of_document thing.kind (k thing fuel)
 with_document k c (ThrowAnswer reason) fuel = c (Throws reason) fuel
-with_document k c given fuel = Fails
+with_document k c given fuel = Stuck
 
 -- goes on with the text that is answered
-abbrev pub with_text : (List ℕ → ℕ → Tree Bare) → Cont → Answer → ℕ → Tree Bare
+abbrev pub with_text : (List ℕ → ℕ → Program Bare) → Cont → Answer → ℕ → Program Bare
 with_text k c (ValueAnswer (StrValue text)) fuel = k text fuel
 with_text k c (ThrowAnswer reason) fuel = c (Throws reason) fuel
-with_text k c given fuel = Fails
+with_text k c given fuel = Stuck
 
 -- goes on where nothing is answered
-abbrev pub with_nothing : (ℕ → Tree Bare) → Cont → Answer → ℕ → Tree Bare
+abbrev pub with_nothing : (ℕ → Program Bare) → Cont → Answer → ℕ → Program Bare
 with_nothing k c (ValueAnswer Undefined) fuel = k fuel
 with_nothing k c (ThrowAnswer reason) fuel = c (Throws reason) fuel
-with_nothing k c given fuel = Fails
+with_nothing k c given fuel = Stuck
 
 -- the name `document` (HTML, Window.document)
-abbrev pub document_row : (Thing → ℕ → Tree Bare) → Cont → ℕ → Tree Bare
+abbrev pub document_row : (Thing → ℕ → Program Bare) → Cont → ℕ → Program Bare
 document_row k c = charge 1 (ask (Native WindowDocument the_window []) (with_document k c) c) c
 
 -- `document.title` (HTML, document.title), a number, a text (ECMAScript, Literals)
-abbrev pub part_row : Part → Cont → ℕ → Tree Bare
+abbrev pub part_row : Part → Cont → ℕ → Program Bare
 part_row Title c = charge 1 (document_row (λ document. ask (Native DocumentTitle document []) (with_text (λ text. c (Gives (StrPrim text))) c) c) c) c
 part_row (Number n) c = charge 1 (c (Gives (NumberPrim n))) c
 part_row (Quoted text) c = charge 1 (c (Gives (StrPrim text))) c
@@ -118,11 +118,11 @@ text_of (NumberPrim n) = decimal n
 text_of (StrPrim text) = text
 
 -- a text is made of two, unless it would be over the limit
-abbrev pub joined_row : List ℕ → Cont → ℕ → Tree Bare
+abbrev pub joined_row : List ℕ → Cont → ℕ → Program Bare
 joined_row text c fuel = if nat_lt TEXT_LIMIT (utf8_len text) then c (Throws TooLong) fuel else charge (text_units text) (c (Gives (StrPrim text))) c fuel
 
 -- two numbers are added, and else the texts of both are joined (ECMAScript, The Addition Operator)
-abbrev pub plus_row : Prim → Prim → Cont → ℕ → Tree Bare
+abbrev pub plus_row : Prim → Prim → Cont → ℕ → Program Bare
 plus_row (NumberPrim a) (NumberPrim b) c = c (Gives (NumberPrim (a + b)))
 plus_row (NumberPrim a) (StrPrim b) c = joined_row (decimal a ++ b) c
 plus_row (StrPrim a) (NumberPrim b) c = joined_row (a ++ decimal b) c
@@ -139,11 +139,11 @@ added left [] = left
 added left (part ∷ parts) = added (Plus left part) parts
 
 -- the left operand, and then the right one
-unfoldable pub addition_row : Addition → Cont → ℕ → Tree Bare
+unfoldable pub addition_row : Addition → Cont → ℕ → Program Bare
 addition_row (Lone part) c = part_row part c
 addition_row (Plus left part) c = charge 1 (addition_row left (bind (λ x. part_row part (bind (λ y. plus_row x y c) c)) c)) c
 
-abbrev pub sum_row : Sum → Cont → ℕ → Tree Bare
+abbrev pub sum_row : Sum → Cont → ℕ → Program Bare
 sum_row sum = addition_row (added (Lone sum.first) sum.more)
 
 -- the function that logs: `console.log` for the page (Console Standard, log), and else `GM_log` (Greasemonkey manual)
@@ -157,11 +157,11 @@ call_units Page = 4
 call_units zone = 3
 
 -- the value of a sum is logged as a text
-abbrev pub logged_row : Zone → Prim → Cont → ℕ → Tree Bare
+abbrev pub logged_row : Zone → Prim → Cont → ℕ → Program Bare
 logged_row zone value c =
     charge (text_units (text_of value)) (ask (Native (log_member zone) the_window (StrValue (text_of value) ∷ [])) (with_nothing (c Next) c) c) c
 
-abbrev pub log_row : Zone → Sum → Cont → ℕ → Tree Bare
+abbrev pub log_row : Zone → Sum → Cont → ℕ → Program Bare
 log_row zone sum c = charge (call_units zone) (sum_row sum (bind (λ value. logged_row zone value c) c)) c
 
 -- the units of a text that is made of an argument; a text is handed on
@@ -170,20 +170,20 @@ argument_units (NumberPrim n) = text_units (decimal n)
 argument_units (StrPrim text) = 0
 
 -- a value is written into the title of a document
-abbrev pub written_row : Thing → Prim → Cont → ℕ → Tree Bare
+abbrev pub written_row : Thing → Prim → Cont → ℕ → Program Bare
 written_row document value c =
     charge (argument_units value) (ask (Native DocumentSetTitle document (StrValue (text_of value) ∷ [])) (with_nothing (c Next) c) c) c
 
 -- the statement and the assignment are charged, and the base of the member is evaluated before the right side (ECMAScript, Assignment Operators)
-abbrev pub title_row : Sum → Cont → ℕ → Tree Bare
+abbrev pub title_row : Sum → Cont → ℕ → Program Bare
 title_row sum c = charge 2 (document_row (λ document. sum_row sum (bind (λ value. written_row document value c) c)) c) c
 
-abbrev pub line_row : Zone → Line → Cont → ℕ → Tree Bare
+abbrev pub line_row : Zone → Line → Cont → ℕ → Program Bare
 line_row zone (Log sum) c = log_row zone sum c
 line_row zone (SetTitle sum) c = title_row sum c
 
 -- the lines in order (ECMAScript, Scripts)
-unfoldable pub lines_row : Zone → List Line → Cont → ℕ → Tree Bare
+unfoldable pub lines_row : Zone → List Line → Cont → ℕ → Program Bare
 lines_row zone [] c = c Next
 lines_row zone (line ∷ lines) c = line_row zone line (follow (lines_row zone lines c) c)
 
@@ -195,8 +195,8 @@ outcome_of (Throws reason) = Throw (error_text reason)
 outcome_of (Halts stop) = Stop stop
 
 -- the entry is left, and the script waits as before
-abbrev pub leave : (levels : ℕ) → Bare → (Bare → Answer → Tree Bare) → Cont
-leave levels m back done fuel = Tells (Leaves (outcome_of done) (FUEL - fuel)) levels m back
+abbrev pub leave : (levels : ℕ) → Bare → (Bare → Answer → Program Bare) → Cont
+leave levels m back done fuel = Emits (Leaves (outcome_of done) (FUEL - fuel)) levels m back
 
 -- the lines that a script's text is read as, by its zone
 abbrev pub Reads : Zone → List ℕ → List Line → Type 0
@@ -210,5 +210,5 @@ enters setup (Script text) levels m back tree = (lines : List Line) × Reads set
 enters setup entry levels m back tree = ⊥
 
 -- before anything the machine waits for an entry; nothing is unfinished, so nothing comes back
-abbrev pub beginning : Point Bare
-beginning = Awaits LEVELS Fresh (λ m answer. Fails)
+abbrev pub beginning : State Bare
+beginning = Awaits LEVELS Fresh (λ m answer. Stuck)

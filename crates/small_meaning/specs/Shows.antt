@@ -15,7 +15,7 @@ use Rattle.door.specs.declared.requests.ErrorKind.TheVariants.{Crossing}
 use Rattle.door.specs.declared.marks.Entry.{Entry}
 use Rattle.door.specs.declared.marks.Entry.TheVariants.{Script}
 use Rattle.small_forms.specs.declared.script.Line.{Line}
-use Rattle.script_meaning.specs.Entries.{Spells}
+use Rattle.js_semantics.specs.Entries.{Spells}
 use Rattle.small_meaning.specs.Rows.{Reads}
 use Rattle.solo_model.specs.Solo.{Show, Enters, Answers, Backs}
 use Rattle.solo_model.specs.Things.{thing_of}

@@ -1,8 +1,8 @@
 //! Laws over the definitions, as the contracts of functions that do nothing.
 
 ghost use Rattle.std.specs.Prelude.{◌≤◌, List};
-ghost use Rattle.script_meaning.specs.Entries.{beginning as language_beginning, enters as language_enters};
-ghost use Rattle.script_meaning.specs.Intrinsics.{Setup};
+ghost use Rattle.js_semantics.specs.Entries.{beginning as language_beginning, enters as language_enters};
+ghost use Rattle.js_semantics.specs.Intrinsics.{Setup};
 ghost use Rattle.small_meaning.specs.Shows.{AreFit, MayRun, entries_in};
 ghost use Rattle.small_meaning.specs.Rows.{beginning, enters};
 ghost use Rattle.solo_model.specs.Solo.{Deed, IsSoloFrom, Show};

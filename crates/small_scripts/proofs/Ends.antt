@@ -90,10 +90,10 @@ pub assign_ends : (text : Scalars) (Q : Tokens → Type 0) (ts : Tokens) → Led
 assign_ends text Q ts =
     stop_ends s.Assign text Q ts (record { no_suffix = refl; no_update = refl; no_product = refl; no_sum = refl; no_order = refl; no_equality = refl; no_and = refl; no_or = refl; no_question = refl })
 
-pub close_ends : (text : Scalars) (Q : Tokens → Type 0) (ts : Tokens) → Led s.Close text Q ts → EndsWhole ts
+pub close_ends : (text : Scalars) (Q : Tokens → Type 0) (ts : Tokens) → Led s.CloseParen text Q ts → EndsWhole ts
 close_ends text Q ts l = record {
-  target = stop_ends s.Close text Q ts (record { no_suffix = refl; no_update = refl; no_product = refl; no_sum = refl; no_order = refl; no_equality = refl; no_and = refl; no_or = refl; no_question = refl }) l;
-  no_assignment = led_lacks assignments s.Close text Q ts refl l;
+  target = stop_ends s.CloseParen text Q ts (record { no_suffix = refl; no_update = refl; no_product = refl; no_sum = refl; no_order = refl; no_equality = refl; no_and = refl; no_or = refl; no_question = refl }) l;
+  no_assignment = led_lacks assignments s.CloseParen text Q ts refl l;
 }
 
 pub semicolon_ends : (text : Scalars) (Q : Tokens → Type 0) (ts : Tokens) → Led s.Semicolon text Q ts → EndsWhole ts

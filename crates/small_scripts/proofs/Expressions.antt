@@ -10,7 +10,7 @@ use Rattle.js_syntax.specs.Symbols.{Tokens, among, is, symbol_of}
 use Rattle.js_syntax.specs.Spelling.{Links, no_more, link, single}
 use Rattle.js_syntax.specs.Words.{leaves, leaf_of, member_names, suffixes, operators, operation, assignments, assignment, is_target}
 use Rattle.js_syntax.specs.Grammar.{Parts, arguments, Primary, leaf, primary, Suffix, member, call, Suffixed, suffixed, plain, Operand, operand, chain, Binary, Conditional, unconditional, Assign, assigned, unassigned}
-use Rattle.js_syntax.specs.Scripts.{CHAIN_LIMIT}
+use Rattle.js_syntax.specs.declared.limits.TheConstants.{CHAIN_LIMIT}
 use Rattle.js_syntax.specs.TokenScalars.{Scalars}
 use Rattle.small_forms.specs.declared.script.Part.{Part}
 use Rattle.small_scripts.specs.Trees.{part_expr, added}
@@ -35,18 +35,18 @@ member_link P n w a b t u ts rest e f same more =
 pub goes_to_member : (P : Parts) (n : ℕ) (w dot : Scalars) (a b : Expr) (Q : Tokens → Type 0) (ts : Tokens) → Led s.Dot dot (Led s.Name w (Then (Goes P n (ex.Member a w) b) Q)) ts → Then (Goes P (suc n) a b) Q ts
 goes_to_member P n w dot a b Q ts (led t more e d (led u mid f same q)) = (q.0, member_link P n w a b t u mid q.0 e f same q.1, q.2)
 
-call_link : (P : Parts) (n : ℕ) (a b c : Expr) (t u : Token) (ts mid rest : Tokens) → symbol_of t ≡ s.Open → symbol_of u ≡ s.Close → P.expr true c ts (u ∷ mid) → Goes P n (ex.Call a (c ∷ [])) b mid rest → Goes P (suc n) a b (t ∷ ts) rest
+call_link : (P : Parts) (n : ℕ) (a b c : Expr) (t u : Token) (ts mid rest : Tokens) → symbol_of t ≡ s.OpenParen → symbol_of u ≡ s.CloseParen → P.expr true c ts (u ∷ mid) → Goes P n (ex.Call a (c ∷ [])) b mid rest → Goes P (suc n) a b (t ∷ ts) rest
 call_link P n a b c t u ts mid rest e f item more =
-    link (tells suffixes t s.Open true e refl)
-    (call (tells (s.Open ∷ []) t s.Open true e refl) (arguments (single item (tells (s.Comma ∷ []) u s.Close false f refl)) (tells (s.Close ∷ []) u s.Close true f refl)))
+    link (tells suffixes t s.OpenParen true e refl)
+    (call (tells (s.OpenParen ∷ []) t s.OpenParen true e refl) (arguments (single item (tells (s.Comma ∷ []) u s.CloseParen false f refl)) (tells (s.CloseParen ∷ []) u s.CloseParen true f refl)))
     more
 
-closed : (P : Parts) (n : ℕ) (close : Scalars) (a b c : Expr) (Q : Tokens → Type 0) (t : Token) (ts mid : Tokens) → symbol_of t ≡ s.Open → P.expr true c ts mid → Led s.Close close (Then (Goes P n (ex.Call a (c ∷ [])) b) Q) mid
+closed : (P : Parts) (n : ℕ) (close : Scalars) (a b c : Expr) (Q : Tokens → Type 0) (t : Token) (ts mid : Tokens) → symbol_of t ≡ s.OpenParen → P.expr true c ts mid → Led s.CloseParen close (Then (Goes P n (ex.Call a (c ∷ [])) b) Q) mid
     → Then (Goes P (suc n) a b) Q (t ∷ ts)
 closed P n close a b c Q t ts mid e item (led u more f same q) = (q.0, call_link P n a b c t u ts more q.0 e f item q.1, q.2)
 
 pub goes_to_call : (P : Parts) (n : ℕ) (open_ close : Scalars) (a b c : Expr) (Q : Tokens → Type 0) (ts : Tokens)
-    → Led s.Open open_ (Then (P.expr true c) (Led s.Close close (Then (Goes P n (ex.Call a (c ∷ [])) b) Q))) ts → Then (Goes P (suc n) a b) Q ts
+    → Led s.OpenParen open_ (Then (P.expr true c) (Led s.CloseParen close (Then (Goes P n (ex.Call a (c ∷ [])) b) Q))) ts → Then (Goes P (suc n) a b) Q ts
 goes_to_call P n open_ close a b c Q ts (led t more e same q) = closed P n close a b c Q t more q.0 e q.1 q.2
 
 -- ---- an expression of one token, with its suffixes

@@ -9,7 +9,7 @@ use Rattle.js_syntax.specs.declared.tree.Stmt.TheVariants as st
 use Rattle.js_syntax.specs.Symbols.{Tokens}
 use Rattle.js_syntax.specs.Words.{suffixes, is_target}
 use Rattle.js_syntax.specs.Grammar.{Parts, Assign, parts_within, not_first}
-use Rattle.js_syntax.specs.Scripts.{CHAIN_LIMIT}
+use Rattle.js_syntax.specs.declared.limits.TheConstants.{CHAIN_LIMIT}
 use Rattle.js_syntax.specs.TokenScalars.{Scalars}
 use Rattle.small_forms.specs.declared.script.Sum.{Sum}
 use Rattle.small_forms.specs.declared.script.Line.{Line}
@@ -75,8 +75,8 @@ past_call n f sum body rest is short h =
     let Last = Then (Goes outer n a a) (Rest body) in
     let last : Has Last (59 ∷ rest) = as_well (Rest body) Last (59 ∷ rest) (λ ts r. expressions.goes_no_further outer n a (Rest body) ts (rest_lacks body ts r) r) (past_semicolon (Spelt body) rest h) in
     let closed = past_close Last (59 ∷ rest) last in
-    let item = past_deeper sum (Led s.Close close Last) (59 ∷ rest) is short (close_ends close Last) closed in
-    as_well _ _ _ (expressions.goes_to_call outer n open_ close f a (sum_expr sum) (Rest body)) (past_open (Then (outer.expr true (sum_expr sum)) (Led s.Close close Last)) (sum_text sum ++ 41 ∷ (59 ∷ rest)) item)
+    let item = past_deeper sum (Led s.CloseParen close Last) (59 ∷ rest) is short (close_ends close Last) closed in
+    as_well _ _ _ (expressions.goes_to_call outer n open_ close f a (sum_expr sum) (Rest body)) (past_open (Then (outer.expr true (sum_expr sum)) (Led s.CloseParen close Last)) (sum_text sum ++ 41 ∷ (59 ∷ rest)) item)
 
 name_first : (w : Scalars) (Q : Tokens → Type 0) (ts : Tokens) → Led s.Name w Q ts → Lacks not_first ts
 name_first w Q ts l = led_lacks not_first s.Name w Q ts refl l

@@ -6,9 +6,9 @@ use Rattle.std.proofs.lemmas.Slice.Eq.{bytes_eq-Decides}
 use Rattle.js_syntax.specs.declared.token.TokenKind.TheVariants as kinds
 use Rattle.js_syntax.specs.declared.symbol.Symbol.{Symbol}
 use Rattle.js_syntax.specs.declared.symbol.Symbol.TheVariants as s
-use Rattle.js_syntax.specs.Symbols.{Tokens, symbol_of, mark_of}
+use Rattle.js_syntax.specs.Symbols.{Tokens, symbol_of, punctuator_of}
 use Rattle.js_syntax.specs.TokenScalars.{Scalars}
-use Rattle.js_syntax.specs.TokenSpelling.{Word, mark, marks, IsIn, IsFront, opens_comment}
+use Rattle.js_syntax.specs.TokenSpelling.{Word, punctuator, punctuators, IsIn, IsFront, opens_comment}
 use Rattle.small_scripts.proofs.Front.{Has, Led, token, past_word}
 use Rattle.small_scripts.proofs.Tests.{both_left, both_right, not_true, test_same}
 
@@ -16,7 +16,7 @@ abbrev differs : ℕ → Scalars → Bool
 differs b [] = true
 differs b (d ∷ ds) = not (b == d)
 
--- a mark isn't longer than this scalar, or isn't what stands there
+-- a punctuator isn't longer than this scalar, or isn't what stands there
 abbrev is_short : ℕ → Scalars → Scalars → Bool
 is_short c rest [] = true
 is_short c rest (a ∷ []) = true
@@ -62,46 +62,46 @@ no_comment : (c : ℕ) (rest : Scalars) → (c == 47) ≡ false → opens_commen
 no_comment c [] h = refl
 no_comment c (d ∷ rest) h = ap (λ b. b && ((d == 47) || (d == 42))) h
 
--- this scalar is a mark before that
+-- this scalar is a punctuator before that
 abbrev is_mark : ℕ → Scalars → Bool
-is_mark c rest = list_any (bytes_eq (c ∷ [])) marks && (not (c == 47) && all_short c rest marks)
+is_mark c rest = list_any (bytes_eq (c ∷ [])) punctuators && (not (c == 47) && all_short c rest punctuators)
 
 mark_word : (c : ℕ) (rest : Scalars) → is_mark c rest ≡ true → Word kinds.Punct (c ∷ []) (c ∷ []) rest
 mark_word c rest h =
-    let more = both_right (list_any (bytes_eq (c ∷ [])) marks) _ h in
-    mark (c ∷ []) rest (record {
-      listed = is_in (c ∷ []) marks (both_left _ _ h);
+    let more = both_right (list_any (bytes_eq (c ∷ [])) punctuators) _ h in
+    punctuator (c ∷ []) rest (record {
+      listed = is_in (c ∷ []) punctuators (both_left _ _ h);
       no_comment = no_comment c rest (not_true (c == 47) (both_left _ _ more));
-      longest = all_short_is c rest marks (both_right (not (c == 47)) _ more);
+      longest = all_short_is c rest punctuators (both_right (not (c == 47)) _ more);
     })
 
-mark_symbol : (w : Scalars) (from to : ℕ) (line : Bool) → symbol_of (token kinds.Punct w from to line) ≡ mark_of (encode_utf8_all w)
+mark_symbol : (w : Scalars) (from to : ℕ) (line : Bool) → symbol_of (token kinds.Punct w from to line) ≡ punctuator_of (encode_utf8_all w)
 unfolding symbol_of
 mark_symbol w from to line = refl
 
-past_mark : (Q : Tokens → Type 0) (c : ℕ) (x : Symbol) (rest : Scalars) → is_mark c rest ≡ true → mark_of (encode_utf8_all (c ∷ [])) ≡ x → Has Q rest → Has (Led x (c ∷ []) Q) (c ∷ rest)
+past_mark : (Q : Tokens → Type 0) (c : ℕ) (x : Symbol) (rest : Scalars) → is_mark c rest ≡ true → punctuator_of (encode_utf8_all (c ∷ [])) ≡ x → Has Q rest → Has (Led x (c ∷ []) Q) (c ∷ rest)
 past_mark Q c x rest is symbol h = past_word Q kinds.Punct x (c ∷ []) (c ∷ []) rest (mark_word c rest is) (λ from to line. mark_symbol (c ∷ []) from to line ∙ symbol) h
 
-pub past_open : (Q : Tokens → Type 0) (rest : Scalars) → Has Q rest → Has (Led s.Open (40 ∷ []) Q) (40 ∷ rest)
-unfolding marks mark_of lib.Utf8.encode
-past_open Q rest h = past_mark Q 40 s.Open rest refl refl h
+pub past_open : (Q : Tokens → Type 0) (rest : Scalars) → Has Q rest → Has (Led s.OpenParen (40 ∷ []) Q) (40 ∷ rest)
+unfolding punctuators punctuator_of lib.Utf8.encode
+past_open Q rest h = past_mark Q 40 s.OpenParen rest refl refl h
 
-pub past_close : (Q : Tokens → Type 0) (rest : Scalars) → Has Q rest → Has (Led s.Close (41 ∷ []) Q) (41 ∷ rest)
-unfolding marks mark_of lib.Utf8.encode
-past_close Q rest h = past_mark Q 41 s.Close rest refl refl h
+pub past_close : (Q : Tokens → Type 0) (rest : Scalars) → Has Q rest → Has (Led s.CloseParen (41 ∷ []) Q) (41 ∷ rest)
+unfolding punctuators punctuator_of lib.Utf8.encode
+past_close Q rest h = past_mark Q 41 s.CloseParen rest refl refl h
 
 pub past_semicolon : (Q : Tokens → Type 0) (rest : Scalars) → Has Q rest → Has (Led s.Semicolon (59 ∷ []) Q) (59 ∷ rest)
-unfolding marks mark_of lib.Utf8.encode
+unfolding punctuators punctuator_of lib.Utf8.encode
 past_semicolon Q rest h = past_mark Q 59 s.Semicolon rest refl refl h
 
 pub past_dot : (Q : Tokens → Type 0) (rest : Scalars) → Has Q rest → Has (Led s.Dot (46 ∷ []) Q) (46 ∷ rest)
-unfolding marks mark_of lib.Utf8.encode
+unfolding punctuators punctuator_of lib.Utf8.encode
 past_dot Q rest h = past_mark Q 46 s.Dot rest refl refl h
 
 pub past_plus : (Q : Tokens → Type 0) (rest : Scalars) → Has Q (32 ∷ rest) → Has (Led s.Plus (43 ∷ []) Q) (43 ∷ (32 ∷ rest))
-unfolding marks mark_of lib.Utf8.encode
+unfolding punctuators punctuator_of lib.Utf8.encode
 past_plus Q rest h = past_mark Q 43 s.Plus (32 ∷ rest) refl refl h
 
 pub past_assign : (Q : Tokens → Type 0) (rest : Scalars) → Has Q (32 ∷ rest) → Has (Led s.Assign (61 ∷ []) Q) (61 ∷ (32 ∷ rest))
-unfolding marks mark_of lib.Utf8.encode
+unfolding punctuators punctuator_of lib.Utf8.encode
 past_assign Q rest h = past_mark Q 61 s.Assign (32 ∷ rest) refl refl h

@@ -8,7 +8,7 @@ use Rattle.js_syntax.specs.declared.symbol.Symbol.TheVariants as s
 use Rattle.js_syntax.specs.declared.tree.Expr.TheVariants as ex
 use Rattle.js_syntax.specs.Symbols.{Tokens, symbol_of, number_of, number_from, number_symbol}
 use Rattle.js_syntax.specs.Words.{leaf_of, value_of}
-use Rattle.js_syntax.specs.TokenScalars.{Scalars, AreAll, NotNext, is_decimal, is_stuck}
+use Rattle.js_syntax.specs.TokenScalars.{Scalars, AreAll, NotNext, is_decimal, runs_on}
 use Rattle.js_syntax.specs.TokenSpelling.{number, Numeral, zero_digit, digits, begins_hexadecimal, widest}
 use Rattle.small_scripts.proofs.Front.{Has, Led, token, past_word}
 use Rattle.small_scripts.proofs.Tests.{both_left, both_right, same_scalar, each_all, all_below, passes}
@@ -80,7 +80,7 @@ numeral : (n : ℕ) (rest : Scalars) → n ≤ 999 → NotNext is_decimal rest �
 unfolding is_good
 numeral n rest h next hex = numeral_of (decimal n) n rest (both_left _ _ (good n h)) next hex
 
-pub past_number : (Q : Tokens → Type 0) (n : ℕ) (rest : Scalars) → n ≤ 999 → NotNext is_decimal rest → NotNext is_stuck rest → begins_hexadecimal rest ≡ false → Has Q rest
+pub past_number : (Q : Tokens → Type 0) (n : ℕ) (rest : Scalars) → n ≤ 999 → NotNext is_decimal rest → NotNext runs_on rest → begins_hexadecimal rest ≡ false → Has Q rest
     → Has (Led s.Number (decimal n) Q) (decimal n ++ rest)
 past_number Q n rest h next stuck hex has =
     past_word Q kinds.Number s.Number (decimal n) (decimal n) rest (number n (decimal n) rest (numeral n rest h next hex) (narrow n h) stuck)

@@ -7,7 +7,7 @@ use Rattle.small_forms.specs.declared.page.Page.{Page}
 use Rattle.small_forms.specs.declared.script.Line.{Line}
 use Rattle.small_forms.specs.Pages.{IsPage, blocks_text, element_text, page_text}
 use Rattle.small_forms.specs.Scripts.{IsPageScript}
-use Rattle.script_meaning.specs.Entries.{Spells}
+use Rattle.js_semantics.specs.Entries.{Spells}
 use Rattle.small_scripts.specs.Trees.{body_of}
 use Rattle.small_scripts.proofs.Lengths.{Fits, left_fits, right_fits}
 use Rattle.small_scripts.proofs.Whole.{page_script_spells}

@@ -10,7 +10,8 @@ use Rattle.js_syntax.specs.Symbols.{Tokens, symbol_of}
 use Rattle.js_syntax.specs.Spelling.{none, one}
 use Rattle.js_syntax.specs.Grammar.{Assign, Ends, semicolon, Statement, parts_within, not_first}
 use Rattle.js_syntax.specs.Grammar as grammar
-use Rattle.js_syntax.specs.Scripts.{CHAIN_LIMIT, LEVEL_LIMIT, IsScript}
+use Rattle.js_syntax.specs.Scripts.{IsScript}
+use Rattle.js_syntax.specs.declared.limits.TheConstants.{CHAIN_LIMIT, LEVEL_LIMIT}
 use Rattle.js_syntax.specs.TokenScalars.{Scalars}
 use Rattle.small_scripts.proofs.Front.{Has, Led, led, Then, token, at_end}
 use Rattle.small_scripts.proofs.Ends.{tells, Lacks}

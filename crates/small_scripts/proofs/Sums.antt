@@ -11,8 +11,8 @@ use Rattle.js_syntax.specs.declared.tree.Expr.TheVariants as ex
 use Rattle.js_syntax.specs.Symbols.{Tokens}
 use Rattle.js_syntax.specs.Words.{suffixes}
 use Rattle.js_syntax.specs.Grammar.{Parts, Suffixed, Binary, Assign}
-use Rattle.js_syntax.specs.Scripts.{CHAIN_LIMIT}
-use Rattle.js_syntax.specs.TokenScalars.{Scalars, NotNext, is_name_part, is_decimal, is_hexadecimal, is_stuck}
+use Rattle.js_syntax.specs.declared.limits.TheConstants.{CHAIN_LIMIT}
+use Rattle.js_syntax.specs.TokenScalars.{Scalars, NotNext, is_name_part, is_decimal, is_hexadecimal, runs_on}
 use Rattle.js_syntax.specs.TokenSpelling.{begins_hexadecimal}
 use Rattle.small_forms.specs.Bytes.{is_in}
 use Rattle.small_forms.specs.declared.bytes.Class.TheVariants.{AlphanumericOrBlank}
@@ -37,7 +37,7 @@ use Rattle.small_scripts.proofs.Expressions.{Goes, Added}
 pub record Stands (rest : Scalars) : Type 0 where
   pub no_name : NotNext is_name_part rest
   pub no_digit : NotNext is_decimal rest
-  pub no_stuck : NotNext is_stuck rest
+  pub no_stuck : NotNext runs_on rest
   pub no_hexadecimal : begins_hexadecimal rest ≡ false
 
 no_hexadecimal : (c : ℕ) (rest : Scalars) → (c == 120) ≡ false → begins_hexadecimal (c ∷ rest) ≡ false

@@ -11,7 +11,7 @@ use Rattle.small_forms.specs.declared.bytes.Class.TheVariants.{Alphanumeric}
 use Rattle.small_forms.specs.declared.script.Line.{Line}
 use Rattle.small_forms.specs.Scripts.{AreLines, IsPageScript, IsUserscript, block_end, block_start, line_text, page_line, page_script_text, userscript_line, userscript_text}
 use Rattle.small_scripts.specs.Trees.{body_of}
-use Rattle.script_meaning.specs.Entries.{Spells}
+use Rattle.js_semantics.specs.Entries.{Spells}
 use Rattle.small_scripts.proofs.Front.{Has}
 use Rattle.small_scripts.proofs.Tests.{each_all, are_all}
 use Rattle.small_scripts.proofs.Gaps.{past_line_feed, past_comment}

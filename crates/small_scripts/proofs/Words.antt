@@ -8,10 +8,11 @@ use Rattle.unicode_ident.proofs.Computing.{unicode_ident}
 use Rattle.js_syntax.specs.declared.token.TokenKind.{TokenKind}
 use Rattle.js_syntax.specs.declared.token.TokenKind.TheVariants as kinds
 use Rattle.js_syntax.specs.declared.symbol.Symbol.TheVariants as s
-use Rattle.js_syntax.specs.Symbols.{Tokens, symbol_of, name_of, word_of}
+use Rattle.js_syntax.specs.ReservedWords.{word_of}
+use Rattle.js_syntax.specs.Symbols.{Tokens, symbol_of, name_of}
 use Rattle.js_syntax.specs.TokenScalars.{Scalars, AreAll, NotNext, is_name_start, is_name_part}
 use Rattle.js_syntax.specs.TokenTexts.{Within, nothing, plain, is_plain, Spells, spells_nothing, itself}
-use Rattle.js_syntax.specs.TokenSpelling.{Word, name, text, name_kind, is_reserved, reserved_words}
+use Rattle.js_syntax.specs.TokenSpelling.{Word, name, text, name_kind, is_reserved}
 use Rattle.small_scripts.proofs.Front.{Has, Led, token, past_word}
 use Rattle.small_scripts.proofs.Tests.{both_left, both_right, not_true, test_le, each_all}
 
@@ -41,23 +42,23 @@ past_name : (Q : Tokens → Type 0) (w rest : Scalars) → is_name w ≡ true �
 past_name Q w rest is symbol next h = past_word Q kinds.Name s.Name w w rest (name_word w rest is next) (λ from to line. name_symbol w from to line ∙ symbol) h
 
 pub past_document : (Q : Tokens → Type 0) (rest : Scalars) → NotNext is_name_part rest → Has Q rest → Has (Led s.Name (codes "document") Q) (codes "document" ++ rest)
-unfolding unicode_ident reserved_words word_of lib.Utf8.encode
+unfolding unicode_ident word_of lib.Utf8.encode
 past_document Q rest next h = past_name Q (codes "document") rest refl refl next h
 
 pub past_title : (Q : Tokens → Type 0) (rest : Scalars) → NotNext is_name_part rest → Has Q rest → Has (Led s.Name (codes "title") Q) (codes "title" ++ rest)
-unfolding unicode_ident reserved_words word_of lib.Utf8.encode
+unfolding unicode_ident word_of lib.Utf8.encode
 past_title Q rest next h = past_name Q (codes "title") rest refl refl next h
 
 pub past_console : (Q : Tokens → Type 0) (rest : Scalars) → NotNext is_name_part rest → Has Q rest → Has (Led s.Name (codes "console") Q) (codes "console" ++ rest)
-unfolding unicode_ident reserved_words word_of lib.Utf8.encode
+unfolding unicode_ident word_of lib.Utf8.encode
 past_console Q rest next h = past_name Q (codes "console") rest refl refl next h
 
 pub past_log : (Q : Tokens → Type 0) (rest : Scalars) → NotNext is_name_part rest → Has Q rest → Has (Led s.Name (codes "log") Q) (codes "log" ++ rest)
-unfolding unicode_ident reserved_words word_of lib.Utf8.encode
+unfolding unicode_ident word_of lib.Utf8.encode
 past_log Q rest next h = past_name Q (codes "log") rest refl refl next h
 
 pub past_gm_log : (Q : Tokens → Type 0) (rest : Scalars) → NotNext is_name_part rest → Has Q rest → Has (Led s.Name (codes "GM_log") Q) (codes "GM_log" ++ rest)
-unfolding unicode_ident reserved_words word_of lib.Utf8.encode
+unfolding unicode_ident word_of lib.Utf8.encode
 past_gm_log Q rest next h = past_name Q (codes "GM_log") rest refl refl next h
 
 -- ---- quoted texts

@@ -7,7 +7,7 @@ ghost use Rattle.small_forms.specs.Pages.{IsPage};
 ghost use Rattle.small_forms.specs.Scripts.{IsPageScript, IsUserscript};
 ghost use Rattle.small_forms.specs.declared.page.Page.{Page as OnePage};
 ghost use Rattle.small_forms.specs.declared.script.Line.{Line};
-ghost use Rattle.script_meaning.specs.Entries.{Spells};
+ghost use Rattle.js_semantics.specs.Entries.{Spells};
 ghost use Rattle.small_scripts.specs.Trees.{body_of};
 
 /// The text of a page's script spells its lines as statements, where it isn't longer than a text may be: a longer

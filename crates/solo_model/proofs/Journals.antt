@@ -12,7 +12,7 @@ use Rattle.door.specs.declared.marks.Mark.TheVariants.{Turn, Build, Enter, Ask, 
 use Rattle.solo_model.specs.View.{Met, is_actor, met_of, view_of}
 use Rattle.solo_model.specs.Stage.{Stage, after, stage_from, stage_of, start}
 use Rattle.solo_model.specs.Truth.{IsGenuine, IsGenuineAfter, IsTrueAfter}
-use Rattle.script_meaning.specs.Entries.{beginning, enters}
+use Rattle.js_semantics.specs.Entries.{beginning, enters}
 use Rattle.solo_model.specs.Solo.{Deed, IsSoloFrom, deeds_of, shows_of}
 use Rattle.solo_model.specs.Closed.{ActsAreSolo, Setups, closed_front, is_plain, opens, reach_in}
 use Rattle.solo_model.specs.Lawful.{AreAsksOf, AreBuilds, AreTurns, Input, placed_request}

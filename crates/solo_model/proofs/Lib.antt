@@ -4,3 +4,5 @@ pub mod Solos
 pub mod Journals
 pub mod Meets
 pub mod Fronts
+pub mod FirstFaults
+pub mod OneEntry

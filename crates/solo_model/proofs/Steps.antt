@@ -4,9 +4,9 @@ use Rattle.std.proofs.lemmas.Bool.Decides.{nat_tests}
 use Rattle.std.proofs.lemmas.List.{append-nil}
 use Rattle.door.specs.declared.values.Actor.{Actor}
 use Rattle.door.specs.declared.marks.Mark.{Mark}
-use Rattle.script_meaning.specs.Solo.{Asks, Tells, Fails, Point, Does, Awaits, Entering}
+use Rattle.js_semantics.specs.Solo.{Asks, Emits, Stuck, State, Runs, Awaits, Entering}
 use Rattle.solo_model.specs.View.{Met, Seen, Entered, Asked, Said, Returned, is_actor, at_start, learnt, seen_of, met_from, met_of, view_from, view_of}
-use Rattle.solo_model.specs.Leads.{Leads}
+use Rattle.solo_model.specs.Reaches.{Reaches}
 
 -- the view of marks, and then of others
 pub view-append : (i : Actor) (met : Met) (xs ys : List Mark) → view_from i met (xs ++ ys) ≡ view_from i met xs ++ view_from i (met_from i met xs) ys
@@ -35,22 +35,22 @@ pub met-more : (i : Actor) (marks : List Mark) (mark : Mark) → met_of i (marks
 met-more i marks mark = met-append i at_start marks (mark ∷ []) ∙ one_learnt i (met_of i marks) mark
 
 -- from one point to another, and on
-pub leads-then : {M : Type 0} (entering : Entering M) (t u v : Point M) (xs ys : List Seen) → Leads entering t xs u → Leads entering u ys v → Leads entering t (xs ++ ys) v
-unfolding Leads
-leads-then entering t u v [] ys e h = let P : Point _ → Type 0 = λ x. Leads entering x ys v in subst P (sym e) h
-leads-then entering (Does (Asks request next)) u v (Asked asked given ∷ xs) ys (e, a) h = (e, leads-then entering (Does (next given)) u v xs ys a h)
-leads-then entering (Does (Tells act levels m back)) u v (Said said ∷ xs) ys (e, a) h = (e, leads-then entering (Awaits levels m back) u v xs ys a h)
-leads-then entering (Awaits levels m back) u v (Entered entry ∷ xs) ys (tree, e, a) h = (tree, e, leads-then entering (Does tree) u v xs ys a h)
-leads-then entering (Awaits levels m back) u v (Returned given ∷ xs) ys a h = leads-then entering (Does (back m given)) u v xs ys a h
-leads-then entering (Does (Asks request next)) u v (Entered entry ∷ xs) ys a h = absurd a
-leads-then entering (Does (Asks request next)) u v (Said said ∷ xs) ys a h = absurd a
-leads-then entering (Does (Asks request next)) u v (Returned given ∷ xs) ys a h = absurd a
-leads-then entering (Does (Tells act levels m back)) u v (Entered entry ∷ xs) ys a h = absurd a
-leads-then entering (Does (Tells act levels m back)) u v (Asked asked given ∷ xs) ys a h = absurd a
-leads-then entering (Does (Tells act levels m back)) u v (Returned given ∷ xs) ys a h = absurd a
-leads-then entering (Awaits levels m back) u v (Asked asked given ∷ xs) ys a h = absurd a
-leads-then entering (Awaits levels m back) u v (Said said ∷ xs) ys a h = absurd a
-leads-then entering (Does Fails) u v (x ∷ xs) ys a h = absurd a
+pub reaches-then : {M : Type 0} (entering : Entering M) (t u v : State M) (xs ys : List Seen) → Reaches entering t xs u → Reaches entering u ys v → Reaches entering t (xs ++ ys) v
+unfolding Reaches
+reaches-then entering t u v [] ys e h = let P : State _ → Type 0 = λ x. Reaches entering x ys v in subst P (sym e) h
+reaches-then entering (Runs (Asks request next)) u v (Asked asked given ∷ xs) ys (e, a) h = (e, reaches-then entering (Runs (next given)) u v xs ys a h)
+reaches-then entering (Runs (Emits act levels m back)) u v (Said said ∷ xs) ys (e, a) h = (e, reaches-then entering (Awaits levels m back) u v xs ys a h)
+reaches-then entering (Awaits levels m back) u v (Entered entry ∷ xs) ys (tree, e, a) h = (tree, e, reaches-then entering (Runs tree) u v xs ys a h)
+reaches-then entering (Awaits levels m back) u v (Returned given ∷ xs) ys a h = reaches-then entering (Runs (back m given)) u v xs ys a h
+reaches-then entering (Runs (Asks request next)) u v (Entered entry ∷ xs) ys a h = absurd a
+reaches-then entering (Runs (Asks request next)) u v (Said said ∷ xs) ys a h = absurd a
+reaches-then entering (Runs (Asks request next)) u v (Returned given ∷ xs) ys a h = absurd a
+reaches-then entering (Runs (Emits act levels m back)) u v (Entered entry ∷ xs) ys a h = absurd a
+reaches-then entering (Runs (Emits act levels m back)) u v (Asked asked given ∷ xs) ys a h = absurd a
+reaches-then entering (Runs (Emits act levels m back)) u v (Returned given ∷ xs) ys a h = absurd a
+reaches-then entering (Awaits levels m back) u v (Asked asked given ∷ xs) ys a h = absurd a
+reaches-then entering (Awaits levels m back) u v (Said said ∷ xs) ys a h = absurd a
+reaches-then entering (Runs Stuck) u v (x ∷ xs) ys a h = absurd a
 
 own_eq : (n : ℕ) → nat_eq n n ≡ true
 own_eq n = grind (arith, nat_tests)

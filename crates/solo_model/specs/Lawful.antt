@@ -16,7 +16,7 @@ use Rattle.door.specs.declared.marks.Entry.TheVariants.{Script}
 use Rattle.door.specs.declared.marks.Outcome.{Outcome}
 use Rattle.door.specs.declared.marks.Mark.{Mark}
 use Rattle.door.specs.declared.marks.Mark.TheVariants.{Turn, Build, Enter, Ask, Dispatch, Back, Leave}
-use Rattle.door.specs.Forest.{Forest, the_host}
+use Rattle.dom_semantics.specs.Forest.{Forest, the_host}
 use Rattle.solo_model.specs.Stage.{stage_of}
 use Rattle.solo_model.specs.Things.{the_document, the_page, the_window, userscript}
 

@@ -1,9 +1,8 @@
 pub mod Things
-pub mod Titles
 pub mod Stage
 pub mod Truth
 pub mod View
 pub mod Solo
 pub mod Closed
 pub mod Lawful
-pub mod Leads
+pub mod Reaches

@@ -3,7 +3,7 @@ use Rattle.std.specs.Prelude.{◌≡◌, List, [], ◌∷◌}
 use Rattle.door.specs.declared.requests.Request.{Request}
 use Rattle.door.specs.declared.requests.Answer.{Answer}
 use Rattle.door.specs.declared.marks.Entry.{Entry}
-use Rattle.script_meaning.specs.Solo.{Tree, Asks, Tells, Point, Does, Awaits, Entering, Act}
+use Rattle.js_semantics.specs.Solo.{Program, Asks, Emits, State, Runs, Awaits, Entering, Act}
 use Rattle.solo_model.specs.View.{Seen, Entered, Asked, Said, Returned}
 
 -- what a script is shown: an entry, the answer to a request, what a dispatch gives back
@@ -38,14 +38,14 @@ abbrev pub First : Deed → List Deed → (List Deed → Type 0) → Type 0
 First deed deeds Then = (more : List Deed) × (deeds ≡ deed ∷ more) × Then more
 
 -- these are the deeds of what is left to do when these are shown, one deed for each show; where a show doesn't fit, there are none such
-unfoldable pub IsSoloFrom : {M : Type 0} → Entering M → Point M → List Show → List Deed → Type 0
-IsSoloFrom enters (Does (Asks request next)) [] deeds = First (Requests request) deeds (λ more. more ≡ [])
-IsSoloFrom enters (Does (Asks request next)) (Answers answer ∷ shows) deeds = First (Requests request) deeds (IsSoloFrom enters (Does (next answer)) shows)
-IsSoloFrom enters (Does (Tells act levels m back)) [] deeds = First (Says act) deeds (λ more. more ≡ [])
-IsSoloFrom enters (Does (Tells act levels m back)) (Enters entry ∷ shows) deeds =
-    First (Says act) deeds (λ more. (tree : Tree _) × enters entry levels m back tree × IsSoloFrom enters (Does tree) shows more)
-IsSoloFrom enters (Does (Tells act levels m back)) (Backs answer ∷ shows) deeds = First (Says act) deeds (IsSoloFrom enters (Does (back m answer)) shows)
+unfoldable pub IsSoloFrom : {M : Type 0} → Entering M → State M → List Show → List Deed → Type 0
+IsSoloFrom enters (Runs (Asks request next)) [] deeds = First (Requests request) deeds (λ more. more ≡ [])
+IsSoloFrom enters (Runs (Asks request next)) (Answers answer ∷ shows) deeds = First (Requests request) deeds (IsSoloFrom enters (Runs (next answer)) shows)
+IsSoloFrom enters (Runs (Emits act levels m back)) [] deeds = First (Says act) deeds (λ more. more ≡ [])
+IsSoloFrom enters (Runs (Emits act levels m back)) (Enters entry ∷ shows) deeds =
+    First (Says act) deeds (λ more. (tree : Program _) × enters entry levels m back tree × IsSoloFrom enters (Runs tree) shows more)
+IsSoloFrom enters (Runs (Emits act levels m back)) (Backs answer ∷ shows) deeds = First (Says act) deeds (IsSoloFrom enters (Runs (back m answer)) shows)
 IsSoloFrom enters (Awaits levels m back) [] deeds = deeds ≡ []
-IsSoloFrom enters (Awaits levels m back) (Enters entry ∷ shows) deeds = (tree : Tree _) × enters entry levels m back tree × IsSoloFrom enters (Does tree) shows deeds
-IsSoloFrom enters (Awaits levels m back) (Backs answer ∷ shows) deeds = IsSoloFrom enters (Does (back m answer)) shows deeds
+IsSoloFrom enters (Awaits levels m back) (Enters entry ∷ shows) deeds = (tree : Program _) × enters entry levels m back tree × IsSoloFrom enters (Runs tree) shows deeds
+IsSoloFrom enters (Awaits levels m back) (Backs answer ∷ shows) deeds = IsSoloFrom enters (Runs (back m answer)) shows deeds
 IsSoloFrom enters point shows deeds = ⊥

@@ -6,7 +6,7 @@ use Rattle.door.specs.declared.values.Thing.{Thing}
 use Rattle.door.specs.declared.values.Value.{Value}
 use Rattle.door.specs.declared.values.Value.TheVariants.{Thing as ThingValue, Str, Bool as BoolValue}
 use Rattle.door.specs.declared.members.Member.{Member}
-use Rattle.door.specs.declared.members.Member.TheVariants.{DocumentCreateElement, DocumentCreateTextNode, DocumentSetTitle, ElementSetAttribute, NodeAppendChild, NewEvent}
+use Rattle.door.specs.declared.members.Member.TheVariants.{DocumentCreateElement, DocumentCreateTextNode, DocumentCreateComment, DocumentSetTitle, ElementSetAttribute, NodeAppendChild, NewEvent}
 use Rattle.door.specs.declared.requests.Request.{Request}
 use Rattle.door.specs.declared.requests.Request.TheVariants.{Native}
 use Rattle.door.specs.declared.requests.ErrorKind.{ErrorKind}
@@ -16,9 +16,9 @@ use Rattle.door.specs.declared.marks.Task.{Task}
 use Rattle.door.specs.declared.marks.Task.TheVariants.{Ready, Load}
 use Rattle.door.specs.declared.marks.Mark.{Mark}
 use Rattle.door.specs.declared.marks.Mark.TheVariants.{Turn, Build, Ask}
-use Rattle.door.specs.Forest.{Tagged, Written, Forest, new_forest, the_host}
-use Rattle.door.specs.Changes.{created, create_refusal, inserted, insert_refusal, with_attribute}
-use Rattle.solo_model.specs.Titles.{titled, title_refusal}
+use Rattle.dom_semantics.specs.Forest.{Tagged, Written, Noted, Forest, new_forest, the_host}
+use Rattle.dom_semantics.specs.Changes.{created, create_refusal, inserted, insert_refusal, with_attribute}
+use Rattle.dom_semantics.specs.Titles.{titled, title_refusal}
 
 -- an event: its type, its flags, and whether the host made it (DOM, Interface Event)
 pub record Event : Type 0 where
@@ -52,10 +52,11 @@ abbrev pub with_event : Stage → Event → Stage
 with_event s event = record s { events = s.events ++ event ∷ [] }
 
 -- what a request of an actor makes of the stage; the members that only read leave it as it is, and so do those that aren't built yet
--- (DOM: create an element, create a text node, set an attribute value, append, constructing events; HTML: document.title)
+-- (DOM: create an element, create a text node, create a comment, set an attribute value, append, constructing events; HTML: document.title)
 abbrev pub changed : Actor → Stage → Member → Thing → List Value → Stage
 changed i s DocumentCreateElement thing (Str tag ∷ []) = with_nodes s (created s.nodes i (Tagged tag))
 changed i s DocumentCreateTextNode thing (Str text ∷ []) = with_nodes s (created s.nodes i (Written text))
+changed i s DocumentCreateComment thing (Str text ∷ []) = with_nodes s (created s.nodes i (Noted text))
 changed i s ElementSetAttribute thing (Str name ∷ (Str value ∷ [])) = with_nodes s (with_attribute s.nodes thing.number name value)
 changed i s NodeAppendChild thing (ThingValue child ∷ []) = with_nodes s (inserted s.nodes thing.number child.number None)
 changed i s DocumentSetTitle thing (Str text ∷ []) = with_nodes s (titled s.nodes i text)
@@ -67,6 +68,7 @@ changed i s member thing arguments = s
 abbrev pub refusal : Actor → Stage → Member → Thing → List Value → Option ErrorKind
 refusal i s DocumentCreateElement thing arguments = create_refusal s.nodes i
 refusal i s DocumentCreateTextNode thing arguments = create_refusal s.nodes i
+refusal i s DocumentCreateComment thing arguments = create_refusal s.nodes i
 refusal i s NodeAppendChild thing (ThingValue child ∷ []) = insert_refusal s.nodes thing.number child.number None
 refusal i s DocumentSetTitle thing (Str text ∷ []) = title_refusal s.nodes i text
 refusal i s member thing arguments = None
@@ -75,6 +77,17 @@ refusal i s member thing arguments = None
 abbrev pub unless_refused : Option ErrorKind → Stage → Stage → Stage
 unless_refused None s next = next
 unless_refused (Some reason) s next = s
+
+-- the requests by which the host builds: the members that have a row above, with arguments of its shape
+abbrev pub HasRow : Request → Type 0
+HasRow (Native DocumentCreateElement thing (Str tag ∷ [])) = Unit {0}
+HasRow (Native DocumentCreateTextNode thing (Str text ∷ [])) = Unit {0}
+HasRow (Native DocumentCreateComment thing (Str text ∷ [])) = Unit {0}
+HasRow (Native ElementSetAttribute thing (Str name ∷ (Str value ∷ []))) = Unit {0}
+HasRow (Native NodeAppendChild thing (ThingValue child ∷ [])) = Unit {0}
+HasRow (Native DocumentSetTitle thing (Str text ∷ [])) = Unit {0}
+HasRow (Native NewEvent thing (Str kind ∷ (BoolValue bubbles ∷ (BoolValue cancelable ∷ (detail ∷ []))))) = Unit {0}
+HasRow request = ⊥
 
 -- what the host makes by a request; one that is refused changes nothing
 abbrev pub built : Stage → Request → Stage

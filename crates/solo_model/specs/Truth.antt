@@ -15,12 +15,12 @@ use Rattle.door.specs.declared.requests.Request.TheVariants.{Native}
 use Rattle.door.specs.declared.requests.Answer.{Answer}
 use Rattle.door.specs.declared.requests.Answer.TheVariants.{Value as ValueAnswer, Throw}
 use Rattle.door.specs.declared.marks.Mark.{Mark}
-use Rattle.door.specs.declared.marks.Mark.TheVariants.{Ask, Dispatch, Back, Serve, Served}
-use Rattle.door.specs.Forest.{the_host}
+use Rattle.door.specs.declared.marks.Mark.TheVariants.{Build, Ask, Dispatch, Back, Serve, Served}
+use Rattle.dom_semantics.specs.Forest.{the_host}
 use Rattle.solo_model.specs.Things.{the_document, the_window}
 use Rattle.solo_model.specs.View.{is_thing}
-use Rattle.solo_model.specs.Titles.{title_of}
-use Rattle.solo_model.specs.Stage.{Stage, refusal, stage_of}
+use Rattle.dom_semantics.specs.Titles.{title_of}
+use Rattle.solo_model.specs.Stage.{HasRow, Stage, refusal, stage_of}
 
 -- a text that is answered, where it isn't over the limit of a text
 abbrev pub text_answer : List ℕ → Answer
@@ -50,9 +50,11 @@ abbrev pub IsTrueAnswer : List Mark → Actor → Request → Answer → Type 0
 IsTrueAnswer before i (Native member thing arguments) given = answer_of (stage_of before) i member thing arguments ≡ Some given
 IsTrueAnswer before i request given = ⊥
 
--- what a mark says is true after the marks before it; only the host dispatches yet, and nothing is served
+-- what a mark says is true after the marks before it; the host builds by members that have a row, only the host dispatches yet, and nothing
+-- is served
 abbrev pub IsTrueAfter : List Mark → Mark → Type 0
 IsTrueAfter before (Ask i request given) = IsTrueAnswer before i request given
+IsTrueAfter before (Build request) = HasRow request
 IsTrueAfter before (Dispatch i event target) = i ≡ the_host
 IsTrueAfter before (Back i given) = i ≡ the_host
 IsTrueAfter before (Serve i owner value operation) = ⊥

@@ -17,7 +17,7 @@ use Rattle.door.specs.declared.marks.Entry.{Entry}
 use Rattle.door.specs.declared.marks.Entry.TheVariants.{Listener}
 use Rattle.door.specs.declared.marks.Mark.{Mark}
 use Rattle.door.specs.declared.marks.Mark.TheVariants.{Enter, Ask, Dispatch, Back, Leave}
-use Rattle.script_meaning.specs.Solo.{Act, Dispatches, Leaves}
+use Rattle.js_semantics.specs.Solo.{Act, Dispatches, Leaves}
 
 -- an object of an actor, by its place among the actor's own
 pub record Object : Type 0 where

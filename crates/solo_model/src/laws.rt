@@ -6,7 +6,7 @@ ghost use Rattle.door.specs.declared.values.Actor.{Actor};
 ghost use Rattle.solo_model.specs.Closed.{ActsAreSolo, IsClosed, Setups, closed_deeds, closed_front, closed_view};
 ghost use Rattle.solo_model.specs.Solo.{shows_of};
 
-use script_laws::entries_go_on_one_way;
+use crate::determinism::entries_go_on_one_way;
 
 /// Equal shows give equal deeds: where an actor is set up alike in two runs and does in both what its own machine
 /// does, and is shown the same up to the k-th show, it does the same up to its k-th deed.

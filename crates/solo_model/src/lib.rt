@@ -3,6 +3,8 @@
 //! carry the laws about them.
 #![tactic(auto)]
 
+mod determinism;
 mod laws;
 
+pub use determinism::{entries_go_on_one_way, scripts_have_no_fault, tokens_have_one_first_fault};
 pub use laws::{equal_shows_give_equal_deeds, the_closed_front_is_the_longest};

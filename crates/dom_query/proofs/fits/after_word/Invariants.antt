@@ -1,5 +1,5 @@
 use Rattle.std.proofs.Common.{◌≡◌, length}
-use Rattle.dom_query.specs.Words.{after_word}
+use Rattle.dom_query.specs.WordsModel.{after_word}
 use Rattle.dom_query.proofs.fits.after_word.Given as goal
 
 abbrev pub invariant-loop-text : goal.invariant-loop-text

@@ -1,6 +1,6 @@
 use Rattle.std.proofs.Common.{◌≡◌, drop}
 use Rattle.std.specs.List.{list_any}
-use Rattle.dom_query.specs.Fits.{fits_chain, fits}
+use Rattle.dom_semantics.specs.SelectorFits.{fits_chain, fits}
 use Rattle.dom_query.proofs.fits.fits.Given as goal
 
 abbrev pub invariant-loop-chain : goal.invariant-loop-chain

@@ -1,5 +1,5 @@
 use Rattle.std.proofs.Common.{◌≡◌, length}
-use Rattle.dom_query.specs.Fits.{has_word}
+use Rattle.dom_semantics.specs.SelectorFits.{has_word}
 use Rattle.dom_query.proofs.fits.has_word.Given as goal
 
 abbrev pub invariant-loop-word : goal.invariant-loop-word

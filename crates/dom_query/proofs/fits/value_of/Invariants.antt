@@ -1,6 +1,6 @@
 use Rattle.std.proofs.Common.{◌≡◌, drop}
 use Rattle.std.specs.Str.{chars}
-use Rattle.door.specs.Forest.{attribute_in}
+use Rattle.dom_semantics.specs.Forest.{attribute_in}
 use Rattle.dom_query.proofs.fits.value_of.Given as goal
 
 abbrev pub invariant-loop-attribute : goal.invariant-loop-attribute

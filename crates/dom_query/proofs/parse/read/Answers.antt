@@ -3,7 +3,7 @@ use Rattle.std.specs.Prelude.{Err}
 use Rattle.dom_query.specs.declared.fault.SelectorFault.{SelectorFault}
 use Rattle.dom_query.specs.declared.kind.Kind.{Kind}
 use Rattle.dom_query.specs.declared.built.Built.{Built}
-use Rattle.dom_query.specs.Reading.{run, build, Tells}
+use Rattle.dom_query.specs.ReadingModel.{run, build, Tells}
 use Rattle.dom_query.proofs.Firsts.{whole, stops_here, goes_on, ends_here}
 use Rattle.dom_query.proofs.parse.read.Goals as goal
 

@@ -1,7 +1,7 @@
 use Rattle.std.proofs.Common.{◌≡◌, drop}
 use Rattle.dom_query.specs.declared.state.State.TheVariants.{Before}
-use Rattle.dom_query.specs.Places.{IsPlaced}
-use Rattle.dom_query.specs.Reading.{run, no_chains}
+use Rattle.dom_query.specs.PlacesModel.{IsPlaced}
+use Rattle.dom_query.specs.ReadingModel.{run, no_chains}
 use Rattle.dom_query.proofs.parse.read.Given as goal
 
 -- what is left, read from this state on, tells what the whole text does

@@ -1,7 +1,7 @@
 use Rattle.std.proofs.Common.{ap, ◌∙◌, ◌+◌, ℕ, arith}
 use Rattle.std.specs.List.{find}
-use Rattle.door.specs.Forest.{DEPTH_LIMIT, in_order}
-use Rattle.dom_query.specs.Queries.{is_of_id}
+use Rattle.dom_semantics.specs.Forest.{DEPTH_LIMIT, in_order}
+use Rattle.dom_semantics.specs.Queries.{is_of_id}
 use Rattle.dom_query.proofs.Walks.{whole_order}
 use Rattle.dom_query.proofs.queries.by_id.Goals as goal
 

@@ -1,7 +1,8 @@
 use Rattle.std.proofs.Common.{◌≡◌, ◌++◌, drop}
 use Rattle.std.specs.List.{filter}
-use Rattle.door.specs.Forest.{form_at}
-use Rattle.dom_query.specs.Queries.{numbers_of, is_of_tag}
+use Rattle.dom_semantics.specs.Forest.{form_at}
+use Rattle.dom_tree.specs.Ids.{numbers_of}
+use Rattle.dom_semantics.specs.Queries.{is_of_tag}
 use Rattle.dom_query.proofs.queries.by_tag.Given as goal
 
 -- what is found and what passes of the nodes that are left is all that passes

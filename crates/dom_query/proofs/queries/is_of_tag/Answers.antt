@@ -1,5 +1,5 @@
 use Rattle.std.proofs.Common.{ap, sym, ◌∙◌}
-use Rattle.door.specs.Forest.{form_at}
+use Rattle.dom_semantics.specs.Forest.{form_at}
 use Rattle.dom_tree.specs.Forms.{form_of}
 use Rattle.dom_query.proofs.SingleTests.{of_tag-star, of_tag-name}
 use Rattle.dom_query.proofs.queries.is_of_tag.Goals as goal

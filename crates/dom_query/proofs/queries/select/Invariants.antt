@@ -1,7 +1,7 @@
 use Rattle.std.proofs.Common.{◌≡◌, ◌++◌, drop}
 use Rattle.std.specs.List.{filter}
-use Rattle.dom_query.specs.Fits.{fits}
-use Rattle.dom_query.specs.Queries.{numbers_of}
+use Rattle.dom_semantics.specs.SelectorFits.{fits}
+use Rattle.dom_tree.specs.Ids.{numbers_of}
 use Rattle.dom_query.proofs.queries.select.Given as goal
 
 -- what is found and what passes of the nodes that are left is all that passes

@@ -2,7 +2,7 @@ use Rattle.std.proofs.Common.{rules, ap, sym, subst, ◌∙◌, ◌<◌, ◌++�
 use Rattle.std.specs.Prelude.{All}
 use Rattle.std.proofs.lemmas.List.{append-nil}
 use Rattle.std.proofs.lemmas.List.Elements.{All-push}
-use Rattle.door.specs.Forest.{children_of}
+use Rattle.dom_semantics.specs.Forest.{children_of}
 use Rattle.dom_query.proofs.Walks.{below-none, next_below}
 use Rattle.dom_query.proofs.walk.+add_below.Goals as goal
 

@@ -1,6 +1,6 @@
 use Rattle.std.proofs.Common.{◌≡◌, ◌<◌, ◌++◌, drop, length}
 use Rattle.std.specs.Prelude.{All}
-use Rattle.door.specs.Forest.{children_of}
+use Rattle.dom_semantics.specs.Forest.{children_of}
 use Rattle.dom_query.proofs.Walks.{below}
 use Rattle.dom_query.proofs.walk.+add_below.Given as goal
 

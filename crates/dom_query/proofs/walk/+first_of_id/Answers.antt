@@ -1,5 +1,5 @@
 use Rattle.std.proofs.Common.{sym, ◌∙◌, ◌-◌, ℕ}
-use Rattle.dom_query.specs.Queries.{is_of_id}
+use Rattle.dom_semantics.specs.Queries.{is_of_id}
 use Rattle.dom_query.proofs.Walks.{first_here, first_further}
 use Rattle.dom_query.proofs.walk.+first_of_id.Goals as goal
 

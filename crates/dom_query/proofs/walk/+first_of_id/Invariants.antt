@@ -1,8 +1,8 @@
 use Rattle.std.proofs.Common.{◌≡◌, ◌<◌, ◌-◌, drop, length}
 use Rattle.std.specs.Prelude.{All}
 use Rattle.std.specs.List.{find}
-use Rattle.door.specs.Forest.{children_of, in_order}
-use Rattle.dom_query.specs.Queries.{is_of_id}
+use Rattle.dom_semantics.specs.Forest.{children_of, in_order}
+use Rattle.dom_semantics.specs.Queries.{is_of_id}
 use Rattle.dom_query.proofs.Walks.{below}
 use Rattle.dom_query.proofs.walk.+first_of_id.Given as goal
 

@@ -1,5 +1,5 @@
 use Rattle.std.proofs.Common.{refl}
-use Rattle.door.specs.Forest.{DEPTH_LIMIT}
+use Rattle.dom_semantics.specs.Forest.{DEPTH_LIMIT}
 use Rattle.dom_query.proofs.walk.depth_limit.Goals as goal
 
 pub returns : goal.returns

@@ -1,7 +1,7 @@
 use Rattle.std.proofs.Common.{rules, sym, ap, ◌∙◌, subst, arith, ◌≡◌, ◌<◌, ◌+◌, ◌-◌, ◌++◌, [], ◌∷◌, get_or, length-append, Some}
 use Rattle.std.specs.Prelude.{length}
-use Rattle.door.specs.Forest.{Forest, Node, node_at, children_of}
-use Rattle.door.specs.Changes.{laid, starts, copied, with_children}
+use Rattle.dom_semantics.specs.Forest.{Forest, Node, node_at, children_of}
+use Rattle.dom_semantics.specs.Changes.{laid, starts, copied, with_children}
 use Rattle.dom_tree.specs.Copies.{parents_of_copies}
 use Rattle.dom_tree.proofs.Closing.{refilled}
 use Rattle.dom_tree.proofs.Counted.{room-left, room-here, length-copied, length-parents}

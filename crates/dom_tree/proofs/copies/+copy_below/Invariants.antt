@@ -1,6 +1,6 @@
 use Rattle.std.proofs.Common.{◌≡◌, ◌+◌, ◌-◌, ◌++◌, [], ◌∷◌, drop, length, Some}
-use Rattle.door.specs.Forest.{children_of, node_at}
-use Rattle.door.specs.Changes.{laid, starts, copied}
+use Rattle.dom_semantics.specs.Forest.{children_of, node_at}
+use Rattle.dom_semantics.specs.Changes.{laid, starts, copied}
 use Rattle.dom_tree.specs.Copies.{parents_laid, parents_of_copies}
 use Rattle.dom_tree.proofs.copies.+copy_below.Given as goal
 

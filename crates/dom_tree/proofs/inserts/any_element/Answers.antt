@@ -1,5 +1,5 @@
 use Rattle.std.proofs.Common.{sym, ◌∙◌, ap}
-use Rattle.door.specs.Forest.{Node, form_at, is_element}
+use Rattle.dom_semantics.specs.Forest.{Node, form_at, is_element}
 use Rattle.dom_tree.proofs.NodeLemmas.{node_at-read}
 use Rattle.dom_tree.proofs.LevelLemmas.{list_any-passed, list_any-failed, list_any-end, is_among-at}
 use Rattle.dom_tree.proofs.inserts.any_element.Goals as goal

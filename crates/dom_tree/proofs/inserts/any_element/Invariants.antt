@@ -1,6 +1,6 @@
 use Rattle.std.proofs.Common.{◌≡◌, drop}
 use Rattle.std.specs.List.{list_any}
-use Rattle.door.specs.Forest.{form_at, is_element}
+use Rattle.dom_semantics.specs.Forest.{form_at, is_element}
 use Rattle.dom_tree.proofs.inserts.any_element.Given as goal
 
 -- whether one that is left is an element decides

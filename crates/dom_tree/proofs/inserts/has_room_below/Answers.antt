@@ -1,6 +1,6 @@
 use Rattle.std.proofs.Common.{◌∙◌, ap}
 use Rattle.std.specs.Prelude.{nat_lt}
-use Rattle.door.specs.Forest.{depth_of}
+use Rattle.dom_semantics.specs.Forest.{depth_of}
 use Rattle.dom_tree.proofs.Rows.{known-rows, depth-same}
 use Rattle.dom_tree.proofs.inserts.has_room_below.Goals as goal
 

@@ -1,6 +1,6 @@
 use Rattle.std.proofs.Common.{◌∙◌, ap, arith, ◌≡◌, ◌-◌}
 use Rattle.std.specs.Prelude.{not}
-use Rattle.door.specs.Forest.{depth_of, DEPTH_LIMIT, has_levels}
+use Rattle.dom_semantics.specs.Forest.{depth_of, DEPTH_LIMIT, has_levels}
 use Rattle.dom_tree.proofs.Rows.{known-rows, depth-same}
 use Rattle.dom_tree.proofs.inserts.is_too_deep.Goals as goal
 

@@ -1,7 +1,7 @@
 use Rattle.std.proofs.Common.{rules, sym, ◌∙◌, ap, subst, ◌<◌, ◌-◌, get_or}
 use Rattle.std.specs.Prelude.{length}
 use Rattle.std.specs.List.{list_all}
-use Rattle.door.specs.Forest.{Node, has_levels, children_of}
+use Rattle.dom_semantics.specs.Forest.{Node, has_levels, children_of}
 use Rattle.dom_tree.proofs.NodeLemmas.{node_at-read}
 use Rattle.dom_tree.proofs.LevelLemmas.{has_levels-more, list_all-passed, list_all-failed, list_all-end, is_child-at}
 use Rattle.dom_tree.proofs.levels.+fits_levels.Goals as goal

@@ -1,6 +1,6 @@
 use Rattle.std.proofs.Common.{◌≡◌, ◌-◌, drop}
 use Rattle.std.specs.List.{list_all}
-use Rattle.door.specs.Forest.{has_levels, children_of}
+use Rattle.dom_semantics.specs.Forest.{has_levels, children_of}
 use Rattle.dom_tree.proofs.levels.+fits_levels.Given as goal
 
 abbrev pub decreases-fits_levels : goal.decreases-fits_levels

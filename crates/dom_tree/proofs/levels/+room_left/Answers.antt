@@ -1,7 +1,7 @@
 use Rattle.std.proofs.Common.{rules, sym, ap, ◌∙◌, subst, arith, ◌<◌, ◌+◌, ◌-◌, get_or, drop, length-append}
 use Rattle.std.specs.Prelude.{ℕ, length}
 use Rattle.std.specs.List.{flat_map}
-use Rattle.door.specs.Forest.{Node, children_of, in_order}
+use Rattle.dom_semantics.specs.Forest.{Node, children_of, in_order}
 use Rattle.dom_tree.proofs.Gathered.{flat_map-more, flat_map-end}
 use Rattle.dom_tree.proofs.Counted.{in_order-more}
 use Rattle.dom_tree.proofs.LevelLemmas.{is_child-at}

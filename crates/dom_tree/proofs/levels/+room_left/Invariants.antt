@@ -1,6 +1,6 @@
 use Rattle.std.proofs.Common.{◌≡◌, ◌+◌, ◌-◌, drop, length}
 use Rattle.std.specs.List.{flat_map}
-use Rattle.door.specs.Forest.{children_of, in_order}
+use Rattle.dom_semantics.specs.Forest.{children_of, in_order}
 use Rattle.dom_tree.proofs.levels.+room_left.Given as goal
 
 abbrev pub decreases-room_left : goal.decreases-room_left

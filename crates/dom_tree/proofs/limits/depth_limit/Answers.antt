@@ -1,5 +1,5 @@
 use Rattle.std.proofs.Common.{refl}
-use Rattle.door.specs.Forest.{DEPTH_LIMIT}
+use Rattle.dom_semantics.specs.Forest.{DEPTH_LIMIT}
 use Rattle.dom_tree.proofs.limits.depth_limit.Goals as goal
 
 pub returns-clause-exact : goal.returns-clause-exact

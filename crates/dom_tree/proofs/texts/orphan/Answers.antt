@@ -1,5 +1,5 @@
 use Rattle.std.proofs.Common.{◌∙◌, ap, arith, cond, get_or, None}
-use Rattle.door.specs.Forest.{is_among}
+use Rattle.dom_semantics.specs.Forest.{is_among}
 use Rattle.dom_tree.proofs.LevelLemmas.{is_among-at, take_all}
 use Rattle.dom_tree.proofs.Replaced.{orphan-more}
 use Rattle.dom_tree.proofs.texts.orphan.Goals as goal

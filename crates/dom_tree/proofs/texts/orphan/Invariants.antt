@@ -1,5 +1,5 @@
 use Rattle.std.proofs.Common.{◌≡◌, ℕ, cond, get_or, take, None}
-use Rattle.door.specs.Forest.{is_among}
+use Rattle.dom_semantics.specs.Forest.{is_among}
 use Rattle.dom_tree.proofs.texts.orphan.Given as goal
 
 -- the numbers so far have no parent, and the others the one that they had

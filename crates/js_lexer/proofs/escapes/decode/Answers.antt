@@ -1,5 +1,5 @@
 use Rattle.std.proofs.Common.{length}
-use Rattle.js_lexer.specs.Texts.{decode}
+use Rattle.js_lexer.specs.StringLiteralsModel.{decode}
 use Rattle.js_lexer.proofs.Values.{so_far_push, so_far_none, so_far_end, rest_shorter}
 use Rattle.js_lexer.proofs.escapes.decode.Goals as goal
 

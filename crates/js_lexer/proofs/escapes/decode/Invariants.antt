@@ -1,7 +1,7 @@
 use Rattle.std.proofs.Common.{◌≡◌, ◌++◌, length}
 use Rattle.std.specs.Prelude.{encode_utf8_all}
 use Rattle.std.specs.String.{string_bytes}
-use Rattle.js_lexer.specs.Texts.{decode}
+use Rattle.js_lexer.specs.StringLiteralsModel.{decode}
 use Rattle.js_lexer.proofs.escapes.decode.Given as goal
 
 abbrev pub invariant-loop-given : goal.invariant-loop-given

@@ -1,5 +1,5 @@
 use Rattle.std.proofs.Common.{◌≡◌, ◌≤◌, length}
-use Rattle.js_lexer.specs.Runs.{digits_from, too_wide}
+use Rattle.js_lexer.specs.RunsModel.{digits_from, too_wide}
 use Rattle.js_lexer.proofs.numbers.digits.Given as goal
 
 abbrev pub invariant-loop-text : goal.invariant-loop-text

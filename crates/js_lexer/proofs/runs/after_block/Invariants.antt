@@ -1,5 +1,5 @@
 use Rattle.std.proofs.Common.{◌≡◌, length, false}
-use Rattle.js_lexer.specs.Runs.{after_block}
+use Rattle.js_lexer.specs.RunsModel.{after_block}
 use Rattle.js_lexer.proofs.runs.after_block.Given as goal
 
 abbrev pub invariant-loop-text : goal.invariant-loop-text

@@ -1,6 +1,6 @@
 use Rattle.std.proofs.Common.{◌≡◌, length}
 use Rattle.js_syntax.specs.TokenScalars.{is_in_line}
-use Rattle.js_lexer.specs.Runs.{after}
+use Rattle.js_lexer.specs.RunsModel.{after}
 use Rattle.js_lexer.proofs.runs.after_line.Given as goal
 
 abbrev pub invariant-loop-text : goal.invariant-loop-text

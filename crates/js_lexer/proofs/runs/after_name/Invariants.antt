@@ -1,6 +1,6 @@
 use Rattle.std.proofs.Common.{◌≡◌, length}
 use Rattle.js_syntax.specs.TokenScalars.{is_name_part}
-use Rattle.js_lexer.specs.Runs.{after}
+use Rattle.js_lexer.specs.RunsModel.{after}
 use Rattle.js_lexer.proofs.runs.after_name.Given as goal
 
 abbrev pub invariant-loop-text : goal.invariant-loop-text

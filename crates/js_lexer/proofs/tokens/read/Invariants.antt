@@ -1,6 +1,6 @@
 use Rattle.std.proofs.Common.{length, false}
 use Rattle.base_text.specs.Scalars.{utf8_len}
-use Rattle.js_lexer.specs.Pieces.{read_from}
+use Rattle.js_lexer.specs.TokenAtFrontModel.{read_from}
 use Rattle.js_lexer.proofs.Loop.{IsSoFar}
 use Rattle.js_lexer.proofs.tokens.read.Given as goal
 

@@ -2,10 +2,10 @@ use Rattle.std.proofs.Common.{List, Ok, Err, arith}
 use Rattle.js_syntax.specs.declared.parse_fault.ParseKind.TheVariants.{Unexpected}
 use Rattle.js_syntax.specs.declared.tree.Stmt.{Stmt}
 use Rattle.js_syntax.specs.declared.tree.Script.{Script}
-use Rattle.script_readers.proofs.Tops.{script_sound, script_again}
-use Rattle.script_readers.proofs.Whole.{is_first}
-use Rattle.script_readers.proofs.OneFault.{script_has, one_fault}
-use Rattle.script_readers.proofs.Parsed.{parsed}
+use Rattle.js_reference_parser.proofs.Tops.{script_sound, script_again}
+use Rattle.js_reference_parser.proofs.Whole.{is_first}
+use Rattle.js_reference_parser.proofs.OneFault.{script_has, one_fault}
+use Rattle.js_reference_parser.proofs.Parsed.{parsed}
 use Rattle.js_parser.proofs.Failing.{failed}
 use Rattle.js_parser.proofs.entry.parse.Goals as goal
 

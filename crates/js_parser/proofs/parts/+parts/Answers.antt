@@ -2,11 +2,11 @@ use Rattle.std.proofs.Common.{◌≡◌, ap, arith, ℕ}
 use Rattle.js_syntax.specs.Symbols.{among}
 use Rattle.js_parser.specs.declared.level.Part.TheVariants as part
 use Rattle.js_parser.specs.declared.level.Form.TheVariants as form
-use Rattle.script_readers.specs.Expressions.{member_firsts}
+use Rattle.js_reference_parser.specs.ExpressionsModel.{member_firsts}
 use Rattle.js_parser.specs.Nests.{part_of, form_of}
 use Rattle.js_parser.specs.Parts.{begins_part, begins_form}
-use Rattle.script_readers.specs.Statements.{within}
-use Rattle.script_readers.proofs.Turns.{deeper}
+use Rattle.js_reference_parser.specs.StatementsModel.{within}
+use Rattle.js_reference_parser.proofs.Turns.{deeper}
 use Rattle.js_parser.proofs.Deep.{refused, no_part, no_form, reads_part, reads_form}
 use Rattle.js_parser.proofs.parts.+parts.Goals as goal
 
@@ -17,7 +17,7 @@ expr-returns-then-levels-eq0 t c =
 
 pub expr-returns-in-Whole : goal.expr-returns-in-Whole
 unfolding within
-expr-returns-in-Whole t c = reads_part c.args.levels c.args.part (part.Whole c.in-Whole.in_is) c.args.tokens.now c.assign.result c.assign.new.tokens (omega arith) c.in-Whole.is c.assign.ensures
+expr-returns-in-Whole t c = reads_part c.args.levels c.args.part (part.Whole c.in-Whole.in_allowed) c.args.tokens.now c.assign.result c.assign.new.tokens (omega arith) c.in-Whole.is c.assign.ensures
 
 pub expr-returns-in-Operand : goal.expr-returns-in-Operand
 unfolding within
@@ -31,9 +31,9 @@ pub expr-returns-in-Callee : goal.expr-returns-in-Callee
 unfolding within
 expr-returns-in-Callee t c = reads_part c.args.levels c.args.part part.Callee c.args.tokens.now c.callee.result c.callee.new.tokens (omega arith) c.in-Callee.is c.callee.ensures
 
-pub expr-returns-in-Applied : goal.expr-returns-in-Applied
+pub expr-returns-in-NewTarget : goal.expr-returns-in-NewTarget
 unfolding within
-expr-returns-in-Applied t c = reads_part c.args.levels c.args.part part.Applied c.args.tokens.now c.applied.result c.applied.new.tokens (omega arith) c.in-Applied.is c.applied.ensures
+expr-returns-in-NewTarget t c = reads_part c.args.levels c.args.part part.NewTarget c.args.tokens.now c.new_target.result c.new_target.new.tokens (omega arith) c.in-NewTarget.is c.new_target.ensures
 
 pub member-returns-then-levels-eq0 : goal.member-returns-then-levels-eq0
 unfolding within
@@ -57,4 +57,4 @@ stmt-returns-in-Any t c = reads_form c.args.levels c.args.form form.Any c.args.i
 
 pub stmt-returns-in-Block : goal.stmt-returns-in-Block
 unfolding within
-stmt-returns-in-Block t c = reads_form c.args.levels c.args.form form.Block c.args.in_function c.args.in_loop c.args.tokens.now c.braces.result c.braces.new.tokens (omega arith) c.in-Block.is c.braces.ensures
+stmt-returns-in-Block t c = reads_form c.args.levels c.args.form form.Block c.args.in_function c.args.in_loop c.args.tokens.now c.block.result c.block.new.tokens (omega arith) c.in-Block.is c.block.ensures

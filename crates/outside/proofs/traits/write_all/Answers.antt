@@ -1,4 +1,4 @@
-use Rattle.std.proofs.Common.{arith, length-drop}
+use Rattle.std.proofs.Common.{◌∙◌, arith, length-drop}
 use Rattle.std.proofs.lemmas.List.{take_rest}
 use Rattle.outside.proofs.Appended.{Appends-more}
 use Rattle.outside.proofs.traits.write_all.Goals as goal
@@ -10,5 +10,5 @@ loop-at-preserved g c =
     record {
       within = omega (arith, simp length-drop at fits);
       bytes = Appends-more _ _ _ c.args.bytes.now c.loop-at.at c.in_ok-at.field-0 c.loop-at.invariant.bytes piece;
-      later = omega (arith, c.in_ok-at.ensures.cause.later);
+      steady = c.in_ok-at.ensures.cause.steady ∙ c.loop-at.invariant.steady;
     }

@@ -2,9 +2,9 @@ use Rattle.std.proofs.Common.{ap, map, inr, Err}
 use Rattle.std.specs.String.{string_bytes}
 use Rattle.door.specs.Record.{Record}
 use Rattle.outside.specs.Causes.{Rose}
-use Rattle.outside.specs.Contents.{Appends, AppendsPrefix}
+use Rattle.outside.specs.Contents.{Appends, AppendsProperPrefix}
 use Rattle.page_host.proofs.Begun.{empty_right, whole_right}
-use Rattle.page_host.proofs.Prepared.{err_refused, err_complete, ok_refused, ok_complete, with_report, other_than}
+use Rattle.page_host.proofs.Running.{err_refused, err_complete, ok_refused, ok_complete, with_report, other_than}
 use Rattle.page_host.proofs.host.host_run.Goals as goal
 
 pub returns-in-Err-clause-refused : goal.returns-in-Err-clause-refused
@@ -13,7 +13,7 @@ returns-in-Err-clause-refused g c =
 
 pub returns-in-Err-clause-complete : goal.returns-in-Err-clause-complete
 returns-in-Err-clause-complete g c =
-    err_complete (map string_bytes c.args.words.now) (g.F.Folder.files c.args.folder.now) c.in-Err.fault c.status.result (Rose (g.F.Folder.faults c.args.folder.now) (g.F.Folder.faults c.prepare.new.folder))
+    err_complete (map string_bytes c.args.words.now) (g.F.Folder.files c.args.folder.now) c.in-Err.fault c.status.result (Rose (g.F.Folder.faults c.args.folder.now) (g.F.Folder.faults c.run.new.folder))
     (Rose (g.S.Sink.faults c.args.out.now) (g.S.Sink.faults c.args.out.now)) c.status.ensures c.in-Err.ensures.refused (λ is. c.in-Err.ensures.unwritten (ap (λ e. Err e) is)) (λ is. c.in-Err.ensures.failed (ap (λ e. Err e) is))
 
 pub returns-in-Err-clause-sofar : goal.returns-in-Err-clause-sofar
@@ -21,32 +21,32 @@ returns-in-Err-clause-sofar g c = λ _. empty_right (map string_bytes c.args.wor
 
 pub returns-in-Ok-clause-refused : goal.returns-in-Ok-clause-refused
 returns-in-Ok-clause-refused g c =
-    ok_refused (map string_bytes c.args.words.now) (g.F.Folder.files c.args.folder.now) c.in-Ok.made.journal.marks c.in-Ok.made.report.items c.deliver.result.status c.in-Ok.ensures.right
+    ok_refused (map string_bytes c.args.words.now) (g.F.Folder.files c.args.folder.now) c.in-Ok.output.journal.marks c.in-Ok.output.report.items c.write_report.result.status c.in-Ok.ensures.right
 
 pub returns-in-Ok-clause-complete : goal.returns-in-Ok-clause-complete
 returns-in-Ok-clause-complete g c =
-    ok_complete (map string_bytes c.args.words.now) (g.F.Folder.files c.args.folder.now) c.deliver.result.status (Rose (g.F.Folder.faults c.args.folder.now) (g.F.Folder.faults c.prepare.new.folder))
-    (Rose (g.S.Sink.faults c.args.out.now) (g.S.Sink.faults c.deliver.new.out)) c.deliver.ensures.answers c.deliver.ensures.write
+    ok_complete (map string_bytes c.args.words.now) (g.F.Folder.files c.args.folder.now) c.write_report.result.status (Rose (g.F.Folder.faults c.args.folder.now) (g.F.Folder.faults c.run.new.folder))
+    (Rose (g.S.Sink.faults c.args.out.now) (g.S.Sink.faults c.write_report.new.out)) c.write_report.ensures.answers c.write_report.ensures.write
 
 pub returns-in-Ok-clause-right : goal.returns-in-Ok-clause-right
 returns-in-Ok-clause-right g c zero =
-    with_report (map string_bytes c.args.words.now) (g.F.Folder.files c.args.folder.now) c.in-Ok.made.journal.marks c.deliver.result.journal.marks c.in-Ok.made.report.items
-    (λ bytes. Appends (g.S.Sink.written c.args.out.now) (g.S.Sink.written c.deliver.new.out) bytes) (ap (λ (j : Record). j.marks) c.deliver.ensures.journal) c.in-Ok.ensures.right (c.deliver.ensures.whole zero)
+    with_report (map string_bytes c.args.words.now) (g.F.Folder.files c.args.folder.now) c.in-Ok.output.journal.marks c.write_report.result.journal.marks c.in-Ok.output.report.items
+    (λ bytes. Appends (g.S.Sink.written c.args.out.now) (g.S.Sink.written c.write_report.new.out) bytes) (ap (λ (j : Record). j.marks) c.write_report.ensures.journal) c.in-Ok.ensures.right (c.write_report.ensures.whole zero)
 
 pub returns-in-Ok-clause-cut : goal.returns-in-Ok-clause-cut
 returns-in-Ok-clause-cut g c eight =
-    with_report (map string_bytes c.args.words.now) (g.F.Folder.files c.args.folder.now) c.in-Ok.made.journal.marks c.deliver.result.journal.marks c.in-Ok.made.report.items
-    (λ bytes. AppendsPrefix (g.S.Sink.written c.args.out.now) (g.S.Sink.written c.deliver.new.out) bytes) (ap (λ (j : Record). j.marks) c.deliver.ensures.journal) c.in-Ok.ensures.right
-    (c.deliver.ensures.cut (other_than c.deliver.result.status 7 eight))
+    with_report (map string_bytes c.args.words.now) (g.F.Folder.files c.args.folder.now) c.in-Ok.output.journal.marks c.write_report.result.journal.marks c.in-Ok.output.report.items
+    (λ bytes. AppendsProperPrefix (g.S.Sink.written c.args.out.now) (g.S.Sink.written c.write_report.new.out) bytes) (ap (λ (j : Record). j.marks) c.write_report.ensures.journal) c.in-Ok.ensures.right
+    (c.write_report.ensures.cut (other_than c.write_report.result.status 7 eight))
 
 pub returns-in-Ok-clause-short : goal.returns-in-Ok-clause-short
 returns-in-Ok-clause-short g c eleven =
-    inr (with_report (map string_bytes c.args.words.now) (g.F.Folder.files c.args.folder.now) c.in-Ok.made.journal.marks c.deliver.result.journal.marks c.in-Ok.made.report.items
-    (λ bytes. AppendsPrefix (g.S.Sink.written c.args.out.now) (g.S.Sink.written c.deliver.new.out) bytes) (ap (λ (j : Record). j.marks) c.deliver.ensures.journal) c.in-Ok.ensures.right
-    (c.deliver.ensures.cut (other_than c.deliver.result.status 10 eleven)))
+    inr (with_report (map string_bytes c.args.words.now) (g.F.Folder.files c.args.folder.now) c.in-Ok.output.journal.marks c.write_report.result.journal.marks c.in-Ok.output.report.items
+    (λ bytes. AppendsProperPrefix (g.S.Sink.written c.args.out.now) (g.S.Sink.written c.write_report.new.out) bytes) (ap (λ (j : Record). j.marks) c.write_report.ensures.journal) c.in-Ok.ensures.right
+    (c.write_report.ensures.cut (other_than c.write_report.result.status 10 eleven)))
 
 pub returns-in-Ok-clause-sofar : goal.returns-in-Ok-clause-sofar
 returns-in-Ok-clause-sofar g c =
     λ _.
-    whole_right (map string_bytes c.args.words.now) (g.F.Folder.files c.args.folder.now) c.in-Ok.made.journal.marks c.deliver.result.journal.marks c.in-Ok.made.report.items (ap (λ (j : Record). j.marks) c.deliver.ensures.journal)
-    c.in-Ok.ensures.right c.in-Ok.ensures.acts
+    whole_right (map string_bytes c.args.words.now) (g.F.Folder.files c.args.folder.now) c.in-Ok.output.journal.marks c.write_report.result.journal.marks c.in-Ok.output.report.items (ap (λ (j : Record). j.marks) c.write_report.ensures.journal)
+    c.in-Ok.ensures.right

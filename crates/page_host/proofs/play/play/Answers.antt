@@ -1,4 +1,5 @@
 use Rattle.std.proofs.Common.{◌≤◌, ◌∙◌, refl, sym, subst, List, ℕ, length}
+use Rattle.door.specs.declared.limits.TheConstants.{USERSCRIPT_LIMIT}
 use Rattle.solo_model.specs.Lawful.{IsLawful}
 use Rattle.small_eval.specs.Pieces.{pieces_of}
 use Rattle.small_eval.specs.Turns.{AreUserscripts}
@@ -8,8 +9,8 @@ use Rattle.page_host.proofs.play.play.Goals as goal
 
 pub play-requires-clause-scripts : goal.play-requires-clause-scripts
 play-requires-clause-scripts c =
-    let P : List (List ℕ) → Type 0 = λ texts. AreUserscripts texts × (length texts ≤ 8) in
-    subst P (sym (c.as_slice.ensures.value ∙ c.in_ok-texts.ensures)) (texts_are c.args.scripts.now c.requires.scripts, texts_few c.args.scripts.now 8 c.requires.few)
+    let P : List (List ℕ) → Type 0 = λ texts. AreUserscripts texts × (length texts ≤ USERSCRIPT_LIMIT) in
+    subst P (sym (c.as_slice.ensures.value ∙ c.in_ok-texts.ensures)) (texts_are c.args.scripts.now c.requires.scripts, texts_few c.args.scripts.now USERSCRIPT_LIMIT c.requires.few)
 
 pub returns-clause-acts : goal.returns-clause-acts
 returns-clause-acts c =

@@ -36,7 +36,7 @@ loop-file-preserved g c =
     rw c.in_ok-keep.ensures
     (record {
       same = c.in_ok-script.ensures.same ∙ c.loop-file.invariant.same;
-      later = omega (arith, c.loop-file.invariant.later, c.in_ok-script.ensures.later);
+      steady = c.in_ok-script.ensures.steady ∙ c.loop-file.invariant.steady;
       held =
           one_held (g.F.Folder.files c.args.folder.now) (g.F.Folder.files c.loop-file.folder) (map string_bytes c.args.files.now) i c.as_str.result.now c.loop-file.scripts.items c.in_ok-script.script c.loop-file.invariant.same
           (count_of string_bytes c.args.files.now i within) at c.loop-file.invariant.held c.in_ok-script.ensures.held;

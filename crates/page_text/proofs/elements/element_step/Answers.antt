@@ -1,5 +1,5 @@
-use Rattle.page_text.specs.Tags.{StartTag, tag_of}
-use Rattle.page_text.specs.Steps.{ElementStep, no_room, no_tag, element, room, state_of, step_of, tag_step}
+use Rattle.page_text.specs.TagsModel.{StartTag, tag_of}
+use Rattle.page_text.specs.StepsModel.{ElementStep, no_room, no_tag, element, room, state_of, step_of, tag_step}
 use Rattle.page_text.proofs.Reading.{handed_on, passed_on, given_answers}
 use Rattle.page_text.proofs.elements.element_step.Goals as goal
 

@@ -1,6 +1,6 @@
 use Rattle.std.proofs.Common.{◌≡◌, ◌∙◌, ◌-◌, ◌++◌, ap, sym, arith, ℕ, Vec, Global}
 use Rattle.std.specs.Prelude.{encode_utf8_all}
-use Rattle.door.specs.Forest.{children_of, form_at}
+use Rattle.dom_semantics.specs.Forest.{children_of, form_at}
 use Rattle.page_text.specs.Around.{back_of}
 use Rattle.page_text.proofs.PrintedParts.{child_more, children_printed, front_at, inside_of, printed_parts, with_back, with_inside, without_inside}
 use Rattle.page_text.proofs.printing.+push_node.Goals.{then-has_inside+else-loop-child-test, else-has_inside}

@@ -1,6 +1,6 @@
 use Rattle.std.proofs.Common.{◌≡◌, ◌-◌, ◌++◌, take}
 use Rattle.std.specs.Prelude.{encode_utf8_all}
-use Rattle.door.specs.Forest.{children_of}
+use Rattle.dom_semantics.specs.Forest.{children_of}
 use Rattle.page_text.proofs.PrintedParts.{children_printed, front_at}
 use Rattle.page_text.proofs.printing.+push_node.Given as goal
 

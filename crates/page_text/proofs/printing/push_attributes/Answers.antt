@@ -1,4 +1,4 @@
-use Rattle.door.specs.Forest.{attributes_of}
+use Rattle.dom_semantics.specs.Forest.{attributes_of}
 use Rattle.page_text.specs.Printed.{shown_attribute}
 use Rattle.page_text.proofs.Encoded.{more_encoded}
 use Rattle.page_text.proofs.printing.push_attributes.Goals as goal

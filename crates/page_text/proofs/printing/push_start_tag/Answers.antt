@@ -1,7 +1,7 @@
 use Rattle.std.proofs.Common.{◌∙◌, ◌++◌, ap, sym}
 use Rattle.std.specs.Prelude.{codes, encode_utf8_all}
 use Rattle.std.specs.List.{flat_map}
-use Rattle.door.specs.Forest.{attributes_of}
+use Rattle.dom_semantics.specs.Forest.{attributes_of}
 use Rattle.page_text.specs.Printed.{shown_attribute}
 use Rattle.page_text.proofs.Encoded.{four, start_tag_encoded}
 use Rattle.page_text.proofs.printing.push_start_tag.Goals as goal

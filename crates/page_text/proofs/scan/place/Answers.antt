@@ -1,6 +1,6 @@
 use Rattle.std.proofs.Common.{◌<◌, ◌+◌, ◌++◌, [], ◌∷◌, length, get_or, take, drop, sym, ap, ◌∙◌, arith, append_assoc, append-nil}
 use Rattle.std.proofs.lemmas.List.{take_more, drop_all, take_all}
-use Rattle.page_text.specs.Scans.{before, stops}
+use Rattle.page_text.specs.ScansModel.{before, stops}
 use Rattle.page_text.proofs.Scanning.{before_here, from_here, before_next, from_next, before_none, from_none}
 use Rattle.page_text.proofs.scan.place.Goals as goal
 

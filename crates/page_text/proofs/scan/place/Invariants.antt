@@ -1,5 +1,5 @@
 use Rattle.std.proofs.Common.{◌≡◌, ◌++◌, take, drop}
-use Rattle.page_text.specs.Scans.{before, from, stops}
+use Rattle.page_text.specs.ScansModel.{before, from, stops}
 use Rattle.page_text.proofs.scan.place.Given as goal
 
 abbrev pub invariant-loop-i : goal.invariant-loop-i

@@ -1,7 +1,7 @@
 use Rattle.std.proofs.Common.{◌≡◌, ℕ, ◌-◌, List, length, map, take, refl, ap}
 use Rattle.std.proofs.lemmas.List.{take-map, length-map}
 use Rattle.page_text.specs.declared.state.Open.{Open as ReadOpen}
-use Rattle.page_text.specs.Steps.{Open, open_of, outer, state_of}
+use Rattle.page_text.specs.StepsModel.{Open, open_of, outer, state_of}
 use Rattle.page_text.proofs.state.without_innermost.Goals as goal
 
 outer_map : (all few : List ReadOpen) (n : ℕ) → n ≡ length all → few ≡ take (n - 1) all → map open_of few ≡ outer (map open_of all)

@@ -1,5 +1,5 @@
 use Rattle.std.proofs.Common.{arith, [], Err}
-use Rattle.page_text.specs.Tags.{Attributes, found_of, closed, more, stuck, next_at}
+use Rattle.page_text.specs.TagsModel.{Attributes, found_of, closed, more, stuck, next_at}
 use Rattle.page_text.proofs.Reading.{handed_on}
 use Rattle.page_text.proofs.tags.attributes.Goals as goal
 

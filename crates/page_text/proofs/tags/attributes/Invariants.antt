@@ -1,7 +1,7 @@
 use Rattle.std.proofs.Common.{◌≤◌, length}
 use denote.Text.{Utf8}
 use denote.Shadow.{shadow}
-use Rattle.page_text.specs.Tags.{AreNamed, Given}
+use Rattle.page_text.specs.TagsModel.{AreNamed, Given}
 use Rattle.page_text.proofs.tags.attributes.Given as goal
 
 abbrev pub invariant-loop-failed : goal.invariant-loop-failed

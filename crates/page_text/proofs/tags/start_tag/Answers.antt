@@ -1,7 +1,7 @@
 use Rattle.std.proofs.Common.{[], Ok, Err, subst, drop}
 use Rattle.page_text.specs.Bytes.{lowered}
 use Rattle.page_text.specs.Outcomes.{Answers, checked}
-use Rattle.page_text.specs.Tags.{Attributes, found_of, StartTag, long, read, name_of, after_name, tag_of}
+use Rattle.page_text.specs.TagsModel.{Attributes, found_of, StartTag, long, read, name_of, after_name, tag_of}
 use Rattle.page_text.proofs.Reading.{handed_on, passed_on}
 use Rattle.page_text.proofs.tags.start_tag.Goals as goal
 

@@ -1,5 +1,5 @@
 use Rattle.std.proofs.Common.{refl, arith}
-use Rattle.page_text.specs.Values.{entity_at}
+use Rattle.page_text.specs.ValuesModel.{entity_at}
 use Rattle.page_text.proofs.Reading.{reads_entity}
 use Rattle.page_text.proofs.values.entity.Goals as goal
 

@@ -2,7 +2,7 @@ use Rattle.std.proofs.Common.{◌≡◌, ◌++◌, length}
 use Rattle.std.specs.String.{string_bytes}
 use denote.Text.{Utf8}
 use denote.Shadow.{shadow}
-use Rattle.page_text.specs.Values.{unescaped}
+use Rattle.page_text.specs.ValuesModel.{unescaped}
 use Rattle.page_text.proofs.values.unescaped.Given as goal
 
 abbrev pub invariant-loop-read : goal.invariant-loop-read

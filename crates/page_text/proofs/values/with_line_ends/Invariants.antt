@@ -2,7 +2,7 @@ use Rattle.std.proofs.Common.{◌≡◌, ◌++◌, length}
 use Rattle.std.specs.String.{string_bytes}
 use denote.Text.{Utf8}
 use denote.Shadow.{shadow}
-use Rattle.page_text.specs.Values.{with_line_ends}
+use Rattle.page_text.specs.ValuesModel.{with_line_ends}
 use Rattle.page_text.proofs.values.with_line_ends.Given as goal
 
 abbrev pub invariant-loop-read : goal.invariant-loop-read

@@ -14,7 +14,7 @@ returns-in_err-charge-clause-keeps c = λ _. keeps_none _ _ _ _ c.requires.sound
 
 pub tell-requires-clause-ready : goal.tell-requires-clause-ready
 tell-requires-clause-ready c =
-    set_ready_none c.args.w.now c.args.actor c.args.text.now c.in_ok-arguments.arguments c.set_title.new.tree c.requires.sound c.requires.headed c.requires.guest
+    set_ready_none c.args.world.now c.args.actor c.args.text.now c.in_ok-arguments.arguments c.set_title.new.tree c.requires.sound c.requires.headed c.requires.guest
     (c.in_ok-arguments.ensures ∙ ap (λ t. StrValue t ∷ []) c.in_ok-share.ensures) (sym c.in-None.is ∙ c.in_ok-set_title.ensures.refusal) (on_none _ _ _ c.in-None.is c.in_ok-set_title.ensures.tree)
 
 pub returns-in_ok-tell-in-None-clause-own : goal.returns-in_ok-tell-in-None-clause-own

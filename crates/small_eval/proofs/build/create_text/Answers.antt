@@ -8,5 +8,5 @@ use Rattle.small_eval.proofs.build.create_text.Goals as goal
 pub returns-clause-built : goal.returns-clause-built
 returns-clause-built c =
     let values = c.in_ok-arguments.ensures ∙ ap (λ t. Str t ∷ []) c.in_ok-share.ensures in
-    built_one c.args.w.now c.create.new.w (writes c.args.text.now) _ (length c.args.w.now.tree ∷ []) c.requires.room.sound c.in_ok-create.ensures.sound
-    (create_told c.args.w.now DocumentCreateTextNode c.args.text.now c.in_ok-arguments.arguments c.requires.room.sound c.requires.room.rooted values) c.in_ok-create.ensures.added c.in_ok-create.ensures.own
+    built_one c.args.world.now c.create.new.world (writes c.args.text.now) _ (length c.args.world.now.tree ∷ []) c.requires.room.sound c.in_ok-create.ensures.sound
+    (create_told c.args.world.now DocumentCreateTextNode c.args.text.now c.in_ok-arguments.arguments c.requires.room.sound c.requires.room.rooted values) c.in_ok-create.ensures.added c.in_ok-create.ensures.own

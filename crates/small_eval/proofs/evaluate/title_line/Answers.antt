@@ -6,7 +6,7 @@ use Rattle.small_meaning.specs.Rows.{Next, ask, bind, sum_row, with_nothing, wri
 use Rattle.door.specs.declared.values.Value.TheVariants.{Str as StrValue}
 use Rattle.door.specs.declared.members.Member.TheVariants.{DocumentSetTitle}
 use Rattle.door.specs.declared.requests.Request.TheVariants.{Native}
-use Rattle.small_eval.specs.Follows.{document_for}
+use Rattle.small_eval.specs.Continuations.{document_for}
 use Rattle.small_eval.proofs.Rows.{after_line, ends_bound, stands_at, written_charged}
 use Rattle.small_eval.proofs.Sound.{goes_on, keeps_charged, keeps_none, keeps_then, same_document, sound_of}
 use Rattle.small_eval.proofs.evaluate.title_line.Goals as goal
@@ -26,7 +26,7 @@ returns-in_err-ask_document-clause-own c = λ s c' h.
 pub returns-in_err-value-clause-own : goal.returns-in_err-value-clause-own
 returns-in_err-value-clause-own c = λ s c' h.
     let row : Thing → ℕ → _ = λ document. sum_row c.args.sum.now (bind (λ value. written_row document value c') c') in
-    let k : Prim → ℕ → _ = λ value. written_row (document_for c.args.actor c.ask_document.new.w.journal.marks) value c' in
+    let k : Prim → ℕ → _ = λ value. written_row (document_for c.args.actor c.ask_document.new.world.journal.marks) value c' in
     let begun = c.in_ok-ask_document.ensures.own s row c' (c.in_ok-charge.ensures.own s _ _ _ c' h) in
     let p = err_from_is_err_and c.from_residual-in_err-value.result c.from_residual-in_err-value.ensures.1 in
     rw (p.1, p.2) (ends_bound s _ _ _ k c' _ (c.in_err-value.ensures.own s (bind k c') (rw c.as_slice.ensures begun)))
@@ -38,7 +38,7 @@ returns-in_err-value-clause-keeps c = λ g. let p = err_from_is_err_and c.from_r
 pub returns-in_err-charge-2-clause-own : goal.returns-in_err-charge-2-clause-own
 returns-in_err-charge-2-clause-own c = λ s c' h.
     let row : Thing → ℕ → _ = λ document. sum_row c.args.sum.now (bind (λ value. written_row document value c') c') in
-    let k : Prim → ℕ → _ = λ value. written_row (document_for c.args.actor c.ask_document.new.w.journal.marks) value c' in
+    let k : Prim → ℕ → _ = λ value. written_row (document_for c.args.actor c.ask_document.new.world.journal.marks) value c' in
     let begun = c.in_ok-ask_document.ensures.own s row c' (c.in_ok-charge.ensures.own s _ _ _ c' h) in
     let valued = c.in_ok-value.ensures.own s (bind k c') (rw c.as_slice.ensures begun) in
     let p = err_from_is_err_and c.from_residual-in_err-charge-2.result c.from_residual-in_err-charge-2.ensures.1 in
@@ -52,7 +52,7 @@ returns-in_err-charge-2-clause-keeps c = λ g.
 pub returns-clause-own : goal.returns-clause-own
 returns-clause-own c = λ s c' h.
     let row : Thing → ℕ → _ = λ document. sum_row c.args.sum.now (bind (λ value. written_row document value c') c') in
-    let k : Prim → ℕ → _ = λ value. written_row (document_for c.args.actor c.ask_document.new.w.journal.marks) value c' in
+    let k : Prim → ℕ → _ = λ value. written_row (document_for c.args.actor c.ask_document.new.world.journal.marks) value c' in
     let begun = c.in_ok-ask_document.ensures.own s row c' (c.in_ok-charge.ensures.own s _ _ _ c' h) in
     let valued = c.in_ok-value.ensures.own s (bind k c') (rw c.as_slice.ensures begun) in
     let asks = c.in_ok-charge-2.ensures.own s _ _ _ c' (stands_at _ _ _ _ _ (written_charged _ c.in_ok-value.value c.in_ok-text.text c' _ _ c.in_ok-text.ensures c.argument_units.ensures) valued) in

@@ -66,4 +66,4 @@ pub returns-clause-built : goal.returns-clause-built
 returns-clause-built c = head_whole _ _ _ _ _ _ c.args.title.now c.requires.first.0 c.in_ok-build_element.ensures.built c.in_ok-build_element-2.ensures.built c.in_ok-build_element-3.ensures.built c.in_ok-build_text.ensures.built c.in_ok-build_element-4.ensures.built
 
 pub returns-clause-headed : goal.returns-clause-headed
-returns-clause-headed c = head_built c.args.w.now c.build_element-4.new.w c.args.title.now 5 c.requires.first.1 (head_whole _ _ _ _ _ _ c.args.title.now c.requires.first.0 c.in_ok-build_element.ensures.built c.in_ok-build_element-2.ensures.built c.in_ok-build_element-3.ensures.built c.in_ok-build_text.ensures.built c.in_ok-build_element-4.ensures.built)
+returns-clause-headed c = head_built c.args.world.now c.build_element-4.new.world c.args.title.now 5 c.requires.first.1 (head_whole _ _ _ _ _ _ c.args.title.now c.requires.first.0 c.in_ok-build_element.ensures.built c.in_ok-build_element-2.ensures.built c.in_ok-build_element-3.ensures.built c.in_ok-build_text.ensures.built c.in_ok-build_element-4.ensures.built)

@@ -9,5 +9,5 @@ use Rattle.small_eval.proofs.page.build_script.Goals as goal
 pub returns-clause-built : goal.returns-clause-built
 returns-clause-built c =
     let some : 0 < length c.args.text.now = omega (arith, c.count.ensures.exact, c.if-count-eq0.false) in
-    let P : ℕ → Type 0 = λ n. HasBuilt (text_writes (length c.build_element.new.w.own.items) c.args.text.now (thing_of Element n)) 1 c.build_element.new.w c.build_text.new.w in
-    script_full c.args.w.now c.build_element.new.w c.build_text.new.w c.args.text.now (empty_told c.args.text.now some) c.in_ok-build_element.ensures.built (subst P c.next_number.ensures c.in_ok-build_text.ensures.built)
+    let P : ℕ → Type 0 = λ n. HasBuilt (text_writes (length c.build_element.new.world.own.items) c.args.text.now (thing_of Element n)) 1 c.build_element.new.world c.build_text.new.world in
+    script_full c.args.world.now c.build_element.new.world c.build_text.new.world c.args.text.now (empty_told c.args.text.now some) c.in_ok-build_element.ensures.built (subst P c.next_number.ensures c.in_ok-build_text.ensures.built)

@@ -6,26 +6,26 @@ use Rattle.small_eval.proofs.run.play_pieces.Goals as goal
 
 pub build_head-requires-clause-room : goal.build_head-requires-clause-room
 build_head-requires-clause-room c =
-    let room = pieces_room c.args.w.now c.turn.new.w c.requires.first c.requires.own c.in_ok-turn.ensures.sound c.in_ok-turn.ensures.same.1 c.in_ok-turn.ensures.added in
-    room_less c.turn.new.w 100 10 10 5 room (omega arith) (omega arith)
+    let room = pieces_room c.args.world.now c.turn.new.world c.requires.first c.requires.own c.in_ok-turn.ensures.sound c.in_ok-turn.ensures.same.1 c.in_ok-turn.ensures.added in
+    room_less c.turn.new.world 100 10 10 5 room (omega arith) (omega arith)
 
 pub build_head-requires-clause-first : goal.build_head-requires-clause-first
-build_head-requires-clause-first c = (pieces_own c.args.w.now c.turn.new.w c.requires.own c.in_ok-turn.ensures.same.1, pieces_start c.args.w.now c.turn.new.w c.requires.first c.in_ok-turn.ensures.added)
+build_head-requires-clause-first c = (pieces_own c.args.world.now c.turn.new.world c.requires.own c.in_ok-turn.ensures.same.1, pieces_start c.args.world.now c.turn.new.world c.requires.first c.in_ok-turn.ensures.added)
 
 pub build_blocks-requires-clause-room : goal.build_blocks-requires-clause-room
 build_blocks-requires-clause-room c =
-    let room = pieces_room c.args.w.now c.turn.new.w c.requires.first c.requires.own c.in_ok-turn.ensures.sound c.in_ok-turn.ensures.same.1 c.in_ok-turn.ensures.added in
-    room_left c.turn.new.w c.build_head.new.w _ 5 100 10 10 6 2 room c.in_ok-build_head.ensures.built refl (omega arith) (omega arith)
+    let room = pieces_room c.args.world.now c.turn.new.world c.requires.first c.requires.own c.in_ok-turn.ensures.sound c.in_ok-turn.ensures.same.1 c.in_ok-turn.ensures.added in
+    room_left c.turn.new.world c.build_head.new.world _ 5 100 10 10 6 2 room c.in_ok-build_head.ensures.built refl (omega arith) (omega arith)
 
 pub build_blocks-requires-clause-body : goal.build_blocks-requires-clause-body
 build_blocks-requires-clause-body c =
-    let one = pieces_own c.args.w.now c.turn.new.w c.requires.own c.in_ok-turn.ensures.same.1 in
-    let more = own_built c.turn.new.w c.build_head.new.w _ 5 c.in_ok-build_head.ensures.built in
+    let one = pieces_own c.args.world.now c.turn.new.world c.requires.own c.in_ok-turn.ensures.same.1 in
+    let more = own_built c.turn.new.world c.build_head.new.world _ 5 c.in_ok-build_head.ensures.built in
     omega (arith, one, more)
 
 pub loop-text-init : goal.loop-text-init
 loop-text-init c = record {
-  at = pieces_begun c.args.page.now c.args.w.now c.turn.new.w c.build_head.new.w c.build_blocks.new.w c.requires.first c.requires.own c.in_ok-turn.ensures.sound c.in_ok-turn.ensures.same.1 c.in_ok-turn.ensures.added c.in_ok-turn.ensures.idle
+  at = pieces_begun c.args.page.now c.args.world.now c.turn.new.world c.build_head.new.world c.build_blocks.new.world c.requires.first c.requires.own c.in_ok-turn.ensures.sound c.in_ok-turn.ensures.same.1 c.in_ok-turn.ensures.added c.in_ok-turn.ensures.idle
       c.in_ok-build_head.ensures.built c.in_ok-build_blocks.ensures.built (c.in_ok-build_blocks.ensures.headed c.in_ok-build_head.ensures.headed);
   number = refl;
   within = omega arith;
@@ -34,13 +34,13 @@ loop-text-init c = record {
 pub end_piece-requires-clause-room : goal.end_piece-requires-clause-room
 end_piece-requires-clause-room c =
     let long = ap (λ (xs : List (List ℕ)). length xs) c.as_slice-text-items.ensures in
-    piece_room c.args.page.now c.loop-text.n c.args.w.now c.loop-text.w c.loop-text.invariant.at (omega (arith, c.loop-text.invariant.number, c.loop-text-test.true, long, c.requires.scripts.1))
+    piece_room c.args.page.now c.loop-text.n c.args.world.now c.loop-text.world c.loop-text.invariant.at (omega (arith, c.loop-text.invariant.number, c.loop-text-test.true, long, c.requires.scripts.1))
 
 pub end_piece-requires-clause-headed : goal.end_piece-requires-clause-headed
 end_piece-requires-clause-headed c = c.loop-text.invariant.at.going.headed
 
 pub end_piece-requires-clause-body : goal.end_piece-requires-clause-body
-end_piece-requires-clause-body c = body_stands c.args.page.now c.loop-text.n c.args.w.now c.loop-text.w c.loop-text.invariant.at
+end_piece-requires-clause-body c = body_stands c.args.page.now c.loop-text.n c.args.world.now c.loop-text.world c.loop-text.invariant.at
 
 pub end_piece-requires-clause-few : goal.end_piece-requires-clause-few
 end_piece-requires-clause-few c =
@@ -57,7 +57,7 @@ loop-text-preserved c =
     let items = c.as_slice-text-items.ensures in
     let long = ap (λ (xs : List (List ℕ)). length xs) items in
     record {
-      at = piece_step c.args.page.now c.loop-text.n c.args.w.now c.loop-text.w c.end_piece.new.w c.text-item.result before.at (omega (arith, before.number, c.loop-text-test.true, long))
+      at = piece_step c.args.page.now c.loop-text.n c.args.world.now c.loop-text.world c.end_piece.new.world c.text-item.result before.at (omega (arith, before.number, c.loop-text-test.true, long))
           (text_is c.as_slice-text-items.result.now c.args.page.now.scripts c.text-item.result c.loop-text.text-index c.loop-text.n _ c.text-item.is items before.number c.loop-text-test.true) done.gone done.headed done.lawful done.idle;
       number = omega (arith, before.number);
       within = omega (arith, c.loop-text-test.true);
@@ -67,13 +67,13 @@ pub returns-clause-lawful : goal.returns-clause-lawful
 returns-clause-lawful c input e =
     let all = c.loop-text.invariant in
     let long = ap (λ (xs : List (List ℕ)). length xs) c.as_slice-text-items.ensures in
-    pieces_ended c.args.page.now c.loop-text.n c.args.w.now c.loop-text.w all.at (omega (arith, all.number, all.within, c.loop-text-test.false, long)) input e
+    pieces_ended c.args.page.now c.loop-text.n c.args.world.now c.loop-text.world all.at (omega (arith, all.number, all.within, c.loop-text-test.false, long)) input e
 
 pub returns-clause-going : goal.returns-clause-going
 returns-clause-going c =
     let all = c.loop-text.invariant in
     let long = ap (λ (xs : List (List ℕ)). length xs) c.as_slice-text-items.ensures in
-    pieces_going c.args.page.now c.loop-text.n c.args.w.now c.loop-text.w all.at (omega (arith, all.number, all.within, long, c.requires.scripts.1))
+    pieces_going c.args.page.now c.loop-text.n c.args.world.now c.loop-text.world all.at (omega (arith, all.number, all.within, long, c.requires.scripts.1))
 
 pub returns-clause-idle : goal.returns-clause-idle
 returns-clause-idle c setups zone s = c.loop-text.invariant.at.idle setups zone s

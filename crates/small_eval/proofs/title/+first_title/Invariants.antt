@@ -1,6 +1,6 @@
 use Rattle.std.proofs.Common.{◌≡◌, ◌-◌, drop, codes}
-use Rattle.door.specs.Forest.{in_order}
-use Rattle.solo_model.specs.Titles.{first_tagged}
+use Rattle.dom_semantics.specs.Forest.{in_order}
+use Rattle.dom_semantics.specs.Titles.{first_tagged}
 use Rattle.small_eval.proofs.Forests.{title_below}
 use Rattle.small_eval.proofs.title.+first_title.Given as goal
 

@@ -1,7 +1,7 @@
 use Rattle.std.proofs.Common.{◌≡◌, List, ℕ, false, take, encode_utf8_all}
 use Rattle.std.specs.List.{flat_map}
 use Rattle.std.specs.String.{string_bytes}
-use Rattle.door.specs.Forest.{form_at, own_text}
+use Rattle.dom_semantics.specs.Forest.{form_at, own_text}
 use Rattle.small_eval.specs.Words.{Reads}
 use Rattle.small_eval.proofs.title.words_in.Given as goal
 

@@ -1,3 +1,4 @@
+use Rattle.base_text.specs.declared.text.TheConstants.{SOURCE_LIMIT}
 use Rattle.std.proofs.Common.{◌≡◌, ◌≤◌, ◌++◌, List, length}
 use Rattle.std.specs.List.{flat_map}
 use Rattle.small_forms.specs.declared.script.Line.{Line}
@@ -11,7 +12,7 @@ invariant-loop-lines l =
       front : l.bytes ≡ flat_map ended_line l.lines ++ l.rest;
       lines : AreLines l.lines;
       only : (lines : List Line) → IsPageScript l.bytes lines → AreLeft l.rest;
-      short : length l.rest ≤ 1048576;
+      short : length l.rest ≤ SOURCE_LIMIT;
     }
 
 abbrev pub decreases-loop-lines : goal.decreases-loop-lines

@@ -1,3 +1,4 @@
+use Rattle.base_text.specs.declared.text.TheConstants.{SOURCE_LIMIT}
 use Rattle.std.proofs.Common.{◌≡◌, ◌≤◌, ◌++◌, List, ℕ, length, IsTrue}
 use Rattle.std.specs.List.{flat_map}
 use Rattle.small_forms.specs.declared.script.Sum.{Sum}
@@ -14,7 +15,7 @@ invariant-loop-added l =
       more : AreParts l.more;
       few : length l.more ≤ 7;
       only : (sum : Sum) (end : List ℕ) → IsSum sum → IsTrue (ends_sum end) → l.bytes ≡ sum_text sum ++ end → AreLeft (length l.more) l.rest;
-      short : length l.rest ≤ 1048576;
+      short : length l.rest ≤ SOURCE_LIMIT;
     }
 
 abbrev pub decreases-loop-added : goal.decreases-loop-added

@@ -1,5 +1,5 @@
 use Rattle.std.proofs.Common.{◌≡◌, ◌∙◌, ap, subst, slice_index_or}
-use Rattle.door.specs.Forest.{Forest, IsForest, Node}
+use Rattle.dom_semantics.specs.Forest.{Forest, IsForest, Node}
 use Rattle.dom_tree.proofs.Children.{children_known}
 use Rattle.dom_tree.proofs.NodeLemmas.{node_at-read}
 use Rattle.dom_tree.proofs.tree.Tree.children.Goals as goal

@@ -1,6 +1,6 @@
 use Rattle.std.proofs.Common.{sym, ◌∙◌, ap, refl, arith, subst, ◌<◌, ◌^◌}
 use Rattle.std.specs.Prelude.{length, [], ◌∷◌, ◌++◌}
-use Rattle.door.specs.Forest.{Forest, Node, node_at}
+use Rattle.dom_semantics.specs.Forest.{Forest, Node, node_at}
 use Rattle.dom_tree.proofs.Blocks.{no_document-after}
 use Rattle.dom_tree.proofs.NodeLemmas.{node_at-read}
 use Rattle.dom_tree.proofs.Trees.{tree_with_node}

@@ -1,7 +1,7 @@
 use Rattle.std.proofs.Common.{sym, ◌∙◌, ap, arith, subst, ◌≡◌, ◌+◌, ◌<◌, ◌^◌}
 use Rattle.std.specs.Prelude.{ℕ, length, List, Option, ◌++◌}
 use Prim.Native.Nat.{suc}
-use Rattle.door.specs.Forest.{Forest, Node, in_order, tree_order, made_by, DEPTH_LIMIT, NODE_LIMIT}
+use Rattle.dom_semantics.specs.Forest.{Forest, Node, in_order, tree_order, made_by, DEPTH_LIMIT, NODE_LIMIT}
 use Rattle.dom_tree.specs.Counts.{IsRaised}
 use Rattle.dom_tree.proofs.Copied.{tree-copied, copies_alone, parents_alone, copies_count}
 use Rattle.dom_tree.proofs.tree.Tree.clone_deep.Goals as goal

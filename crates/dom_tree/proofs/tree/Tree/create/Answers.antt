@@ -1,6 +1,6 @@
 use Rattle.std.proofs.Common.{sym, ◌∙◌, ap, arith, subst, ◌<◌, ◌^◌}
 use Rattle.std.specs.Prelude.{length, [], ◌∷◌, ◌++◌}
-use Rattle.door.specs.Forest.{Forest, Node}
+use Rattle.dom_semantics.specs.Forest.{Forest, Node}
 use Rattle.dom_tree.specs.Forms.{form_of}
 use Rattle.dom_tree.proofs.Trees.{tree_of, tree_with, is_document-form_of}
 use Rattle.dom_tree.proofs.tree.Tree.create.Goals as goal

@@ -1,8 +1,8 @@
 use Rattle.std.proofs.Common.{sym, ◌∙◌, ap, refl, subst, ◌<◌}
 use Rattle.std.specs.Prelude.{length}
 use Rattle.std.proofs.lemmas.List.{length-set}
-use Rattle.door.specs.Forest.{Forest, node_at, attributes_of}
-use Rattle.door.specs.Changes.{without_attribute, dropped_from}
+use Rattle.dom_semantics.specs.Forest.{Forest, node_at, attributes_of}
+use Rattle.dom_semantics.specs.Changes.{without_attribute, dropped_from}
 use Rattle.dom_tree.proofs.Closing.{tree_refilled}
 use Rattle.dom_tree.proofs.Trees.{tree-set}
 use Rattle.dom_tree.proofs.tree.Tree.drop_attr.Goals as goal

@@ -2,8 +2,8 @@ use Rattle.std.proofs.Common.{sym, ◌∙◌, ap, subst, ◌<◌}
 use Rattle.std.specs.Prelude.{length, None, []}
 use Rattle.std.proofs.Common.{cond, get_or}
 use Rattle.std.proofs.lemmas.List.{length-set}
-use Rattle.door.specs.Forest.{Node, Forest, is_child, is_among}
-use Rattle.door.specs.Changes.{with_children}
+use Rattle.dom_semantics.specs.Forest.{Node, Forest, is_child, is_among}
+use Rattle.dom_semantics.specs.Changes.{with_children}
 use Rattle.dom_tree.proofs.Closing.{tree_both}
 use Rattle.dom_tree.proofs.NodeLemmas.{node_at-read}
 use Rattle.dom_tree.proofs.Replaced.{Orphaned, tree-emptied}

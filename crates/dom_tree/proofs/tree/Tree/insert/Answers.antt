@@ -1,8 +1,8 @@
 use Rattle.std.proofs.Common.{sym, ◌∙◌, ap, subst, ◌<◌}
 use Rattle.std.specs.Prelude.{Some, length, slice_set}
 use Rattle.std.proofs.lemmas.Bool.{cond-false}
-use Rattle.door.specs.Forest.{Forest}
-use Rattle.door.specs.Changes.{inserted, moved, removed, insert_refusal, is_itself}
+use Rattle.dom_semantics.specs.Forest.{Forest}
+use Rattle.dom_semantics.specs.Changes.{inserted, moved, removed, insert_refusal, is_itself}
 use Rattle.dom_tree.specs.Tree.{IsTree}
 use Rattle.dom_tree.proofs.Closing.{refilled, can_move}
 use Rattle.dom_tree.proofs.Moves.{tree-moved}

@@ -1,7 +1,7 @@
 use Rattle.std.proofs.Common.{sym, ◌∙◌, ap, arith, subst, ◌≡◌, ◌<◌}
 use Rattle.std.specs.Prelude.{Some, None, length, option_and_then}
 use Rattle.std.proofs.lemmas.List.{get_or_read}
-use Rattle.door.specs.Forest.{Node, Forest, parent_of, children_of, after_in, next_sibling_of}
+use Rattle.dom_semantics.specs.Forest.{Node, Forest, parent_of, children_of, after_in, next_sibling_of}
 use Rattle.dom_tree.proofs.NodeLemmas.{node_at-read}
 use Rattle.dom_tree.proofs.Parents.{parent_of-child, child-within}
 use Rattle.dom_tree.proofs.tree.Tree.next_sibling.Goals as goal

@@ -2,9 +2,9 @@ use Rattle.std.proofs.Common.{sym, ◌∙◌, ap, arith, subst, ◌≡◌, ◌<�
 use Rattle.std.specs.Prelude.{length, Some, None, [], ◌∷◌, ◌++◌, ℕ, List, Option, slice_set}
 use Rattle.std.proofs.Common.{cond, get_or, ◌^◌}
 use Rattle.std.proofs.lemmas.List.{length-set, length_push}
-use Rattle.door.specs.Forest.{Node, Forest, children_of, is_child, is_among, depth_of, DEPTH_LIMIT, Written, new_node}
+use Rattle.dom_semantics.specs.Forest.{Node, Forest, children_of, is_child, is_among, depth_of, DEPTH_LIMIT, Written, new_node}
 use Rattle.dom_tree.specs.Tree.{IsTree}
-use Rattle.door.specs.Changes.{with_children, created}
+use Rattle.dom_semantics.specs.Changes.{with_children, created}
 use Rattle.dom_tree.proofs.Closing.{tree_refilled, refilled}
 use Rattle.dom_tree.proofs.NodeLemmas.{node_at-read}
 use Rattle.dom_tree.proofs.Replaced.{Orphaned, tree-texted}

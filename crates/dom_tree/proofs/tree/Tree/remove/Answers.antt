@@ -1,7 +1,7 @@
 use Rattle.std.proofs.Common.{sym, ◌∙◌, ap, subst, ◌≡◌, ◌<◌}
 use Rattle.std.specs.Prelude.{None, length, slice_set}
-use Rattle.door.specs.Forest.{Forest, parent_of, is_child}
-use Rattle.door.specs.Changes.{removed}
+use Rattle.dom_semantics.specs.Forest.{Forest, parent_of, is_child}
+use Rattle.dom_semantics.specs.Changes.{removed}
 use Rattle.dom_tree.specs.Tree.{IsTree}
 use Rattle.dom_tree.proofs.Closing.{refilled}
 use Rattle.dom_tree.proofs.Moves.{tree-removed}

@@ -1,8 +1,8 @@
 use Rattle.std.proofs.Common.{sym, ◌∙◌, ap, refl, subst, ◌<◌}
 use Rattle.std.specs.Prelude.{length}
 use Rattle.std.proofs.lemmas.List.{length-set}
-use Rattle.door.specs.Forest.{Forest, node_at, form_at}
-use Rattle.door.specs.Changes.{with_form}
+use Rattle.dom_semantics.specs.Forest.{Forest, node_at, form_at}
+use Rattle.dom_semantics.specs.Changes.{with_form}
 use Rattle.dom_tree.specs.Forms.{data_in}
 use Rattle.dom_tree.proofs.Closing.{tree_refilled}
 use Rattle.dom_tree.proofs.Trees.{tree-set, is_document-data_in}

@@ -1,9 +1,9 @@
 use Rattle.std.proofs.Common.{◌≡◌, ◌-◌}
 use Rattle.js_syntax.specs.Symbols.{among}
-use Rattle.token_readers.specs.Readers.{chain}
-use Rattle.script_pieces.specs.Sets.{symbols_of}
-use Rattle.script_readers.specs.Expressions.{denied, suffix}
-use Rattle.script_readers.specs.Statements.{within}
+use Rattle.js_combinators.specs.Readers.{chain}
+use Rattle.js_cursor.specs.Sets.{symbols_of}
+use Rattle.js_reference_parser.specs.ExpressionsModel.{denied, suffix}
+use Rattle.js_reference_parser.specs.StatementsModel.{within}
 use Rattle.js_parser.proofs.level.Level.chain.Given as goal
 
 abbrev pub invariant-loop-link : goal.invariant-loop-link

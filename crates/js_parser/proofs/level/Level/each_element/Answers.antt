@@ -3,10 +3,10 @@ use Rattle.std.proofs.lemmas.Grind.{common_steps}
 use Rattle.std.proofs.Common.{true}
 use Rattle.js_syntax.specs.declared.symbol.Symbol.TheVariants as s
 use Rattle.js_syntax.specs.Symbols.{is}
-use Rattle.token_readers.specs.Readers.{rounds}
-use Rattle.script_readers.specs.Expressions.{entry, one_more}
-use Rattle.script_readers.specs.Statements.{within}
-use Rattle.script_readers.proofs.Turns as turns
+use Rattle.js_combinators.specs.Readers.{rounds}
+use Rattle.js_reference_parser.specs.ExpressionsModel.{entry, one_more}
+use Rattle.js_reference_parser.specs.StatementsModel.{within}
+use Rattle.js_reference_parser.proofs.Turns as turns
 use Rattle.js_parser.proofs.level.Level.each_element.Goals as goal
 
 pub returns-in_err-item : goal.returns-in_err-item

@@ -1,9 +1,9 @@
 use Rattle.std.proofs.Common.{◌≡◌, ◌-◌}
 use Rattle.js_syntax.specs.declared.symbol.Symbol.TheVariants as s
 use Rattle.js_syntax.specs.Symbols.{is}
-use Rattle.token_readers.specs.Readers.{rounds}
-use Rattle.script_readers.specs.Expressions.{each, entry, one_more}
-use Rattle.script_readers.specs.Statements.{within}
+use Rattle.js_combinators.specs.Readers.{rounds}
+use Rattle.js_reference_parser.specs.ExpressionsModel.{each, entry, one_more}
+use Rattle.js_reference_parser.specs.StatementsModel.{within}
 use Rattle.js_parser.proofs.level.Level.each_member.Given as goal
 
 abbrev pub invariant-loop-turn : goal.invariant-loop-turn

@@ -1,25 +1,25 @@
 use Rattle.std.proofs.Common.{rules, arith}
 use Rattle.std.proofs.lemmas.Grind.{common_steps}
-use Rattle.token_readers.specs.Readers.{rounds}
-use Rattle.script_readers.specs.Expressions.{not_comma, next_item}
-use Rattle.script_readers.specs.Statements.{within, declared}
-use Rattle.script_readers.proofs.Turns as turns
+use Rattle.js_combinators.specs.Readers.{rounds}
+use Rattle.js_reference_parser.specs.ExpressionsModel.{not_comma, next_item}
+use Rattle.js_reference_parser.specs.StatementsModel.{within, declared}
+use Rattle.js_reference_parser.proofs.Turns as turns
 use Rattle.js_parser.proofs.level.Level.more_declared.Goals as goal
 
 pub returns-in_default : goal.returns-in_default
 unfolding rounds
 returns-in_default g c =
-    let e = turns.one_more (λ n. rounds n not_comma (next_item (declared 64 c.args.self.now.left (within 64 c.args.self.now.left) c.args.in_is)) c.loop-turn.found c.loop-turn.tokens) _ c.loop-turn._turn c.loop-turn-test.true c.loop-turn.invariant in
+    let e = turns.one_more (λ n. rounds n not_comma (next_item (declared 64 c.args.self.now.left (within 64 c.args.self.now.left) c.args.in_allowed)) c.loop-turn.found c.loop-turn.tokens) _ c.loop-turn._turn c.loop-turn-test.true c.loop-turn.invariant in
     first_of (search rules, grind (arith, common_steps))
 
 pub returns-in_err-item : goal.returns-in_err-item
 unfolding rounds
 returns-in_err-item g c =
-    let e = turns.one_more (λ n. rounds n not_comma (next_item (declared 64 c.args.self.now.left (within 64 c.args.self.now.left) c.args.in_is)) c.loop-turn.found c.loop-turn.tokens) _ c.loop-turn._turn c.loop-turn-test.true c.loop-turn.invariant in
+    let e = turns.one_more (λ n. rounds n not_comma (next_item (declared 64 c.args.self.now.left (within 64 c.args.self.now.left) c.args.in_allowed)) c.loop-turn.found c.loop-turn.tokens) _ c.loop-turn._turn c.loop-turn-test.true c.loop-turn.invariant in
     first_of (search rules, grind (arith, common_steps))
 
 pub loop-turn-preserved : goal.loop-turn-preserved
 unfolding rounds
 loop-turn-preserved g c =
-    let e = turns.one_more (λ n. rounds n not_comma (next_item (declared 64 c.args.self.now.left (within 64 c.args.self.now.left) c.args.in_is)) c.loop-turn.found c.loop-turn.tokens) _ c.loop-turn._turn c.loop-turn-test.true c.loop-turn.invariant in
+    let e = turns.one_more (λ n. rounds n not_comma (next_item (declared 64 c.args.self.now.left (within 64 c.args.self.now.left) c.args.in_allowed)) c.loop-turn.found c.loop-turn.tokens) _ c.loop-turn._turn c.loop-turn-test.true c.loop-turn.invariant in
     first_of (search rules, grind (arith, common_steps))

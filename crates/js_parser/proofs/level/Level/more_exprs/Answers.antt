@@ -1,10 +1,10 @@
 use Rattle.std.proofs.Common.{rules, arith}
 use Rattle.std.proofs.lemmas.Grind.{common_steps}
 use Rattle.std.proofs.Common.{true}
-use Rattle.token_readers.specs.Readers.{rounds}
-use Rattle.script_readers.specs.Expressions.{not_comma, next_item}
-use Rattle.script_readers.specs.Statements.{within}
-use Rattle.script_readers.proofs.Turns as turns
+use Rattle.js_combinators.specs.Readers.{rounds}
+use Rattle.js_reference_parser.specs.ExpressionsModel.{not_comma, next_item}
+use Rattle.js_reference_parser.specs.StatementsModel.{within}
+use Rattle.js_reference_parser.proofs.Turns as turns
 use Rattle.js_parser.proofs.level.Level.more_exprs.Goals as goal
 
 pub returns-in_default : goal.returns-in_default

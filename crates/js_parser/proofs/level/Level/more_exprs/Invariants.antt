@@ -1,8 +1,8 @@
 use Rattle.std.proofs.Common.{◌≡◌, ◌-◌}
 use Rattle.std.proofs.Common.{true}
-use Rattle.token_readers.specs.Readers.{rounds, repeat}
-use Rattle.script_readers.specs.Expressions.{not_comma, next_item}
-use Rattle.script_readers.specs.Statements.{within}
+use Rattle.js_combinators.specs.Readers.{rounds, repeat}
+use Rattle.js_reference_parser.specs.ExpressionsModel.{not_comma, next_item}
+use Rattle.js_reference_parser.specs.StatementsModel.{within}
 use Rattle.js_parser.proofs.level.Level.more_exprs.Given as goal
 
 abbrev pub invariant-loop-turn : goal.invariant-loop-turn

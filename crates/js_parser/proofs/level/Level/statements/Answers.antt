@@ -1,10 +1,10 @@
 use Rattle.std.proofs.Common.{rules, arith}
 use Rattle.std.proofs.lemmas.Grind.{common_steps}
 use Rattle.js_syntax.specs.Words.{closes_body}
-use Rattle.token_readers.specs.Readers.{rounds}
-use Rattle.script_readers.specs.Expressions.{one_more}
-use Rattle.script_readers.specs.Statements.{within}
-use Rattle.script_readers.proofs.Turns as turns
+use Rattle.js_combinators.specs.Readers.{rounds}
+use Rattle.js_reference_parser.specs.ExpressionsModel.{one_more}
+use Rattle.js_reference_parser.specs.StatementsModel.{within}
+use Rattle.js_reference_parser.proofs.Turns as turns
 use Rattle.js_parser.proofs.level.Level.statements.Goals as goal
 
 pub returns-in_err-item : goal.returns-in_err-item

@@ -1,8 +1,8 @@
 use Rattle.std.proofs.Common.{◌≡◌, ◌-◌}
 use Rattle.js_syntax.specs.Words.{closes_body}
-use Rattle.token_readers.specs.Readers.{rounds}
-use Rattle.script_readers.specs.Expressions.{each, one_more}
-use Rattle.script_readers.specs.Statements.{within}
+use Rattle.js_combinators.specs.Readers.{rounds}
+use Rattle.js_reference_parser.specs.ExpressionsModel.{each, one_more}
+use Rattle.js_reference_parser.specs.StatementsModel.{within}
 use Rattle.js_parser.proofs.level.Level.statements.Given as goal
 
 abbrev pub invariant-loop-turn : goal.invariant-loop-turn

@@ -1,14 +1,14 @@
 use Rattle.std.proofs.Common.{rules, arith, ◌≡◌, ◌-◌, suc, sym, ap, ◌∙◌}
-use Rattle.token_readers.specs.Readers.{and_then}
-use Rattle.script_readers.specs.Expressions.{target_chain}
-use Rattle.script_readers.specs.Statements.{within}
-use Rattle.script_readers.proofs.TargetLinks as links
+use Rattle.js_combinators.specs.Readers.{and_then}
+use Rattle.js_reference_parser.specs.ExpressionsModel.{target_chain}
+use Rattle.js_reference_parser.specs.StatementsModel.{within}
+use Rattle.js_reference_parser.proofs.TargetLinks as links
 use Rattle.js_parser.proofs.level.Level.target_suffixes.Goals as goal
 
 pub returns-in_err-found : goal.returns-in_err-found
 returns-in_err-found g c =
     let e = ap (λ n. target_chain n c.args.self.now.left (within 64 c.args.self.now.left) c.loop-link.found c.loop-link.tokens) (sym (links.here c.loop-link._link c.loop-link-test.true)) ∙ c.loop-link.invariant in
-    let f = links.taken (62 - c.loop-link._link) c.args.self.now.left (within 64 c.args.self.now.left) c.loop-link.found c.loop-link.tokens c.eat_any.new.self c.in-Some.mark.now c.in_ok-undenied.ensures c.in-Some.ensures.0 c.in-Some.ensures.1 in
+    let f = links.taken (62 - c.loop-link._link) c.args.self.now.left (within 64 c.args.self.now.left) c.loop-link.found c.loop-link.tokens c.eat_any.new.self c.in-Some.token.now c.in_ok-undenied.ensures c.in-Some.ensures.0 c.in-Some.ensures.1 in
     rw (sym e) (rw f (search rules))
 
 pub returns-in_default : goal.returns-in_default
@@ -20,7 +20,7 @@ returns-in_default g c =
 pub loop-link-preserved : goal.loop-link-preserved
 loop-link-preserved g c =
     let e = ap (λ n. target_chain n c.args.self.now.left (within 64 c.args.self.now.left) c.loop-link.found c.loop-link.tokens) (sym (links.here c.loop-link._link c.loop-link-test.true)) ∙ c.loop-link.invariant in
-    let f = links.taken (62 - c.loop-link._link) c.args.self.now.left (within 64 c.args.self.now.left) c.loop-link.found c.loop-link.tokens c.eat_any.new.self c.in-Some.mark.now c.in_ok-undenied.ensures c.in-Some.ensures.0 c.in-Some.ensures.1 in
+    let f = links.taken (62 - c.loop-link._link) c.args.self.now.left (within 64 c.args.self.now.left) c.loop-link.found c.loop-link.tokens c.eat_any.new.self c.in-Some.token.now c.in_ok-undenied.ensures c.in-Some.ensures.0 c.in-Some.ensures.1 in
     ap (λ n. target_chain n c.args.self.now.left (within 64 c.args.self.now.left) c.in_ok-found.found c.suffix.new.tokens) (links.after c.loop-link._link c.loop-link-test.true) ∙ sym (ap (λ o. and_then o (target_chain (suc (62 - c.loop-link._link)) c.args.self.now.left (within 64 c.args.self.now.left))) c.in_ok-found.ensures) ∙ sym f ∙ e
 
 pub returns : goal.returns

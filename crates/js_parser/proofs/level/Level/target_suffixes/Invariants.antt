@@ -1,6 +1,6 @@
 use Rattle.std.proofs.Common.{◌≡◌, ◌-◌}
-use Rattle.script_readers.specs.Expressions.{target_chain}
-use Rattle.script_readers.specs.Statements.{within}
+use Rattle.js_reference_parser.specs.ExpressionsModel.{target_chain}
+use Rattle.js_reference_parser.specs.StatementsModel.{within}
 use Rattle.js_parser.proofs.level.Level.target_suffixes.Given as goal
 
 abbrev pub invariant-loop-link : goal.invariant-loop-link

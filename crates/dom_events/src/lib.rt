@@ -1,0 +1,16 @@
+//! Listeners, events and the walk that takes an event along its path (DOM, 2 Events).
+#![tactic(auto)]
+
+mod events;
+mod listeners;
+mod path;
+mod same;
+mod walk;
+
+pub use dom_semantics::{Due, Event, EventForm, Flag, Listener};
+pub use events::{EventFault, Events};
+pub use listeners::{ListenerFault, Listeners};
+pub use walk::{Walk, next_listener};
+
+#[cfg(test)]
+mod tests;

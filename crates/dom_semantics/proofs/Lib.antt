@@ -1,0 +1,2 @@
+pub mod Collapsing
+mod Courses

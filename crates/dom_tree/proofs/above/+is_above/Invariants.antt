@@ -1,4 +1,0 @@
-use Rattle.dom_tree.proofs.above.+is_above.Given as goal
-
-abbrev pub decreases-is_above : goal.decreases-is_above
-decreases-is_above l = l.limit

@@ -1,0 +1,10 @@
+pub mod TextMaps
+pub mod Lent
+pub mod MapLemmas
+pub mod Plain
+pub mod Reading
+pub mod RoundTrip
+pub mod Fits
+pub mod OneText
+pub mod OneReading
+pub mod SameText

@@ -1,0 +1,5 @@
+pub mod Limits
+pub mod Maps
+pub mod Stored
+pub mod Written
+pub mod WrittenModel

@@ -1,0 +1,3 @@
+pub mod ExpressionsModel
+pub mod StatementsModel
+pub mod Places

@@ -1,0 +1,294 @@
+-- The cells that each actor begins with, in the order of their places: the built-ins as their table lists them, a constructor directly
+-- followed by its prototype, then the scripts among them and the interfaces, each followed by its prototype, and then the members of the outside (ECMAScript, 19 to 23;
+-- Web IDL, 3.7; the places are this project's own). What isn't built yet takes no place.
+use Rattle.std.specs.Prelude.{ℕ, suc, ◌-◌, ◌+◌, ◌==◌, Bool, true, false, List, [], ◌∷◌, ◌++◌, Option, Some, None, length, replicate, codes, if◌then◌else◌}
+use Rattle.door.specs.declared.zones.Zone.{Zone}
+use Rattle.door.specs.declared.zones.Zone.TheVariants.{Page}
+use Rattle.door.specs.declared.grants.GrantSet.{GrantSet}
+use Rattle.door.specs.declared.values.Kind.TheVariants.{Window}
+use Rattle.door.specs.declared.members.Member.{Member}
+use Rattle.door.specs.declared.members.Member.TheVariants as member
+use Rattle.js_syntax.specs.declared.tree.Function.{Function}
+use Rattle.js_semantics.specs.Builtin.{Builtin}
+use Rattle.js_semantics.specs.Builtin as b
+use Rattle.js_semantics.specs.Prelude as prelude
+use Rattle.js_semantics.specs.Places.{OBJECT_PROTOTYPE, FUNCTION_PROTOTYPE, ARRAY_PROTOTYPE, ERROR_PROTOTYPE, DOCUMENT_PROTOTYPE, WINDOW_PROTOTYPE, EVENT_PROTOTYPE}
+use Rattle.js_semantics.specs.Machine.{Machine, Cell, Form, Plain, Closure, Native, Reference, Own, Value, Refers, Property, Datum, Accessor, Slot, undefined, text, CELLS, GLOBAL_PLACE, the_window}
+use Rattle.js_semantics.specs.Properties.{property_in, defined_in}
+
+-- where a cell is named: by a key of another cell, as a getter or a setter there, or nowhere
+pub data Named : Type 0 where
+  Under : (holder : ℕ) (key : List ℕ) → Named
+  Getter : (holder : ℕ) (key : List ℕ) → Named
+  Setter : (holder : ℕ) (key : List ℕ) → Named
+  Nowhere : Named
+
+-- a cell that an actor begins with
+pub record Intrinsic : Type 0 where
+  pub named : Named
+  pub form : Form
+  pub prototype : Option Reference
+  pub slots : List Slot
+
+-- a function under a key, and a plain object
+abbrev function : ℕ → List ℕ → Builtin → Intrinsic
+function holder key builtin = record { named = Under holder key; form = Native builtin; prototype = Some (Own FUNCTION_PROTOTYPE); slots = [] }
+
+abbrev object : ℕ → List ℕ → Option Reference → Intrinsic
+object holder key above = record { named = Under holder key; form = Plain; prototype = above; slots = [] }
+
+abbrev hidden : List ℕ → Value → Slot
+hidden key value = record { key = key; property = Datum value true false }
+
+-- a prototype, which its constructor names and which names its constructor
+abbrev prototype_for : ℕ → Option Reference → Intrinsic
+prototype_for constructor above =
+    record { named = Under constructor (codes "prototype"); form = Plain; prototype = above; slots = hidden (codes "constructor") (Refers (Own constructor)) ∷ [] }
+
+abbrev getter : ℕ → List ℕ → Member → Intrinsic
+getter holder key name = record { named = Getter holder key; form = Native (b.Asks name); prototype = Some (Own FUNCTION_PROTOTYPE); slots = [] }
+
+abbrev setter : ℕ → List ℕ → Member → Intrinsic
+setter holder key name = record { named = Setter holder key; form = Native (b.Asks name); prototype = Some (Own FUNCTION_PROTOTYPE); slots = [] }
+
+abbrev plain : Option Reference
+plain = Some (Own OBJECT_PROTOTYPE)
+
+-- a global name
+abbrev global : List ℕ → Builtin → Intrinsic
+global key builtin = function GLOBAL_PLACE key builtin
+
+-- a constructor whose prototype is another's; events are only named until they are built
+abbrev sharing : ℕ → List ℕ → Builtin → Intrinsic
+sharing place key builtin = record (global key builtin) { slots = hidden (codes "prototype") (Refers (Own place)) ∷ [] }
+
+abbrev error_kind : List ℕ → Builtin → Intrinsic
+error_kind key builtin = sharing ERROR_PROTOTYPE key builtin
+
+abbrev custom_event : Intrinsic
+custom_event = sharing EVENT_PROTOTYPE (codes "CustomEvent") b.Interface
+
+-- a function of Array.prototype that is a script
+abbrev written : List ℕ → Function → Intrinsic
+written key code = record { named = Under ARRAY_PROTOTYPE key; form = Closure code None; prototype = Some (Own FUNCTION_PROTOTYPE); slots = [] }
+
+-- the address of the page, which isn't writable
+abbrev location : List ℕ → Intrinsic
+location address = record (object GLOBAL_PLACE (codes "location") plain) { slots = record { key = codes "href"; property = Datum (text address) false false } ∷ [] }
+
+-- a function of Greasemonkey is named where it is granted
+abbrev granted : Bool → List ℕ → Member → Intrinsic
+granted true key name = global key (b.Asks name)
+granted false key name = record (global key (b.Asks name)) { named = Nowhere }
+
+-- from place 0: Object (20.1)
+abbrev pub objects : List Intrinsic
+objects =
+    global (codes "Object") b.ObjectFunction
+    ∷ prototype_for 0 None
+    ∷ function 0 (codes "keys") b.ObjectKeys
+    ∷ function 0 (codes "create") b.ObjectCreate
+    ∷ function 0 (codes "getPrototypeOf") b.ObjectGetPrototypeOf
+    ∷ function 0 (codes "setPrototypeOf") b.ObjectSetPrototypeOf
+    ∷ function 0 (codes "defineProperty") b.ObjectDefineProperty
+    ∷ function 1 (codes "hasOwnProperty") b.ObjectHasOwnProperty
+    ∷ function 1 (codes "toString") b.ObjectToString
+    ∷ []
+
+-- from place 9: Function (20.2)
+abbrev pub functions : List Intrinsic
+functions =
+    global (codes "Function") b.FunctionFunction
+    ∷ prototype_for 9 plain
+    ∷ function 10 (codes "call") b.FunctionCall
+    ∷ function 10 (codes "apply") b.FunctionApply
+    ∷ []
+
+-- from place 13: Array (23.1)
+abbrev pub arrays : List Intrinsic
+arrays =
+    global (codes "Array") b.ArrayFunction
+    ∷ prototype_for 13 plain
+    ∷ function 13 (codes "isArray") b.ArrayIsArray
+    ∷ function 14 (codes "push") b.ArrayPush
+    ∷ function 14 (codes "pop") b.ArrayPop
+    ∷ function 14 (codes "shift") b.ArrayShift
+    ∷ function 14 (codes "unshift") b.ArrayUnshift
+    ∷ function 14 (codes "reverse") b.ArrayReverse
+    ∷ []
+
+-- from place 21: String, Number and Boolean (22.1, 21.1, 20.3)
+abbrev pub primitives : List Intrinsic
+primitives =
+    global (codes "String") b.StringFunction
+    ∷ prototype_for 21 plain
+    ∷ global (codes "Number") b.NumberFunction
+    ∷ prototype_for 23 plain
+    ∷ global (codes "Boolean") b.BooleanFunction
+    ∷ prototype_for 25 plain
+    ∷ function 22 (codes "charAt") b.StringCharAt
+    ∷ function 22 (codes "charCodeAt") b.StringCharCodeAt
+    ∷ function 22 (codes "indexOf") b.StringIndexOf
+    ∷ function 22 (codes "slice") b.StringSlice
+    ∷ function 22 (codes "substring") b.StringSubstring
+    ∷ function 22 (codes "split") b.StringSplit
+    ∷ function 22 (codes "replace") b.StringReplace
+    ∷ function 22 (codes "trim") b.StringTrim
+    ∷ function 22 (codes "toLowerCase") b.StringToLowerCase
+    ∷ function 22 (codes "toUpperCase") b.StringToUpperCase
+    ∷ function 22 (codes "toString") b.StringToString
+    ∷ function 24 (codes "toString") b.NumberToString
+    ∷ function 26 (codes "toString") b.BooleanToString
+    ∷ []
+
+-- from place 40: Math (21.3)
+abbrev pub mathematics : List Intrinsic
+mathematics =
+    object GLOBAL_PLACE (codes "Math") plain
+    ∷ function 40 (codes "abs") b.MathAbs
+    ∷ function 40 (codes "floor") b.MathFloor
+    ∷ function 40 (codes "min") b.MathMin
+    ∷ function 40 (codes "max") b.MathMax
+    ∷ function 40 (codes "div") b.MathDiv
+    ∷ []
+
+-- from place 46: Error and its kinds, with one prototype (20.5)
+abbrev pub errors : List Intrinsic
+errors =
+    global (codes "Error") b.ErrorFunction
+    ∷ prototype_for 46 plain
+    ∷ function 47 (codes "toString") b.ErrorToString
+    ∷ error_kind (codes "TypeError") b.TypeErrorFunction
+    ∷ error_kind (codes "RangeError") b.RangeErrorFunction
+    ∷ error_kind (codes "ReferenceError") b.ReferenceErrorFunction
+    ∷ []
+
+-- from place 52: what logs, and the address (Console Standard; HTML, Location; Greasemonkey manual)
+abbrev pub logs : GrantSet → List ℕ → List Intrinsic
+logs grants address =
+    object GLOBAL_PLACE (codes "console") plain
+    ∷ function 52 (codes "log") (b.Asks member.ConsoleLog)
+    ∷ location address
+    ∷ granted grants.log (codes "GM_log") member.GmLog
+    ∷ []
+
+-- from place 56: the functions of Array.prototype that are scripts (23.1.3)
+abbrev pub scripted : List Intrinsic
+scripted =
+    written (codes "forEach") prelude.for_each
+    ∷ prototype_for 56 plain
+    ∷ written (codes "map") prelude.map
+    ∷ prototype_for 58 plain
+    ∷ written (codes "filter") prelude.filter
+    ∷ prototype_for 60 plain
+    ∷ written (codes "some") prelude.some
+    ∷ prototype_for 62 plain
+    ∷ written (codes "every") prelude.every
+    ∷ prototype_for 64 plain
+    ∷ written (codes "indexOf") prelude.index_of
+    ∷ prototype_for 66 plain
+    ∷ written (codes "slice") prelude.slice
+    ∷ prototype_for 68 plain
+    ∷ written (codes "join") prelude.join
+    ∷ prototype_for 70 plain
+    ∷ written (codes "concat") prelude.concat
+    ∷ prototype_for 72 plain
+    ∷ []
+
+-- from place 74: the interfaces (DOM, HTML)
+abbrev pub interfaces : List Intrinsic
+interfaces =
+    global (codes "EventTarget") b.Interface
+    ∷ prototype_for 74 plain
+    ∷ global (codes "Node") b.Interface
+    ∷ prototype_for 76 (Some (Own 75))
+    ∷ global (codes "Document") b.Interface
+    ∷ prototype_for 78 (Some (Own 77))
+    ∷ global (codes "Element") b.Interface
+    ∷ prototype_for 80 (Some (Own 77))
+    ∷ global (codes "CharacterData") b.Interface
+    ∷ prototype_for 82 (Some (Own 77))
+    ∷ global (codes "Window") b.Interface
+    ∷ prototype_for 84 (Some (Own 75))
+    ∷ global (codes "Event") b.Interface
+    ∷ prototype_for 86 plain
+    ∷ custom_event
+    ∷ []
+
+-- from place 89: the members of Window and Document (HTML)
+abbrev pub members : List Intrinsic
+members =
+    getter WINDOW_PROTOTYPE (codes "document") member.WindowDocument
+    ∷ getter WINDOW_PROTOTYPE (codes "window") member.WindowWindow
+    ∷ getter WINDOW_PROTOTYPE (codes "self") member.WindowSelf
+    ∷ getter DOCUMENT_PROTOTYPE (codes "title") member.DocumentTitle
+    ∷ setter DOCUMENT_PROTOTYPE (codes "title") member.DocumentSetTitle
+    ∷ []
+
+-- all of them, in the order of their places
+abbrev pub intrinsics : GrantSet → List ℕ → List Intrinsic
+intrinsics grants address =
+    objects ++ (functions ++ (arrays ++ (primitives ++ (mathematics ++ (errors ++ (logs grants address ++ (scripted ++ (interfaces ++ members))))))))
+
+-- ---- their properties
+
+-- a getter is there already
+abbrev pub with_set : ℕ → Option Property → Property
+with_set i (Some (Accessor get set enumerable)) = Accessor get (Some i) enumerable
+with_set i property = Accessor None (Some i) false
+
+-- the property that an intrinsic is, in the list of the cell that names it
+abbrev pub named_in : ℕ → ℕ → Named → List Slot → List Slot
+named_in place i (Under holder key) slots = if holder == place then defined_in slots key (Datum (Refers (Own i)) true false) else slots
+named_in place i (Getter holder key) slots = if holder == place then defined_in slots key (Accessor (Some i) None false) else slots
+named_in place i (Setter holder key) slots = if holder == place then defined_in slots key (with_set i (property_in slots key)) else slots
+named_in place i Nowhere slots = slots
+
+-- the properties of the cell at a place, in the order of the cells that it names, the first of which has place i
+abbrev pub slots_from : ℕ → ℕ → List Intrinsic → List Slot → List Slot
+slots_from place i [] slots = slots
+slots_from place i (x ∷ xs) slots = slots_from place (suc i) xs (named_in place i x.named slots)
+
+abbrev pub cells_from : List Intrinsic → ℕ → List Intrinsic → List (Option Cell)
+cells_from all place [] = []
+cells_from all place (x ∷ xs) = Some (record { form = x.form; prototype = x.prototype; slots = slots_from place 0 all x.slots }) ∷ cells_from all (suc place) xs
+
+-- ---- the machine before anything
+
+-- what a script is set up with: its zone, its grants and the page's address
+pub record Setup : Type 0 where
+  pub zone : Zone
+  pub grants : GrantSet
+  pub address : List ℕ
+
+-- the global names: `undefined`, which isn't writable, and those of the built-ins
+abbrev pub global_slots : List Intrinsic → List Slot
+global_slots all = slots_from GLOBAL_PLACE 0 all (record { key = codes "undefined"; property = Datum undefined false false } ∷ [])
+
+-- the global object of a userscript is a cell above the window, and the page's is the window itself
+abbrev pub global_cell : Zone → List Slot → Option Cell
+global_cell Page slots = None
+global_cell zone slots = Some (record { form = Plain; prototype = Some the_window; slots = slots })
+
+abbrev pub window_slots : Zone → List Slot → List Slot
+window_slots Page slots = slots
+window_slots zone slots = []
+
+-- the window is met, and a userscript has its global
+abbrev pub cells_beside : Zone → ℕ
+cells_beside Page = 1
+cells_beside zone = 2
+
+abbrev pub begun : Setup → List Intrinsic → Machine
+begun setup all = record {
+  zone = setup.zone;
+  cells = cells_from all 0 all ++ (replicate (GLOBAL_PLACE - length all) None ++ global_cell setup.zone (global_slots all) ∷ []);
+  scopes = [];
+  things = record { kind = Window; slots = window_slots setup.zone (global_slots all) } ∷ [];
+  objects = [];
+  room = CELLS - (length all + cells_beside setup.zone);
+}
+
+-- a machine has its intrinsics and has met the window
+unfoldable pub fresh : Setup → Machine
+fresh setup = begun setup (intrinsics setup.grants setup.address)

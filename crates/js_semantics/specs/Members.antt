@@ -1,0 +1,209 @@
+-- Get, Set, Has, Delete, Keys and Define of own cells and things (ECMAScript, 10.1 and 7.3). A chain that comes to an object of another
+-- actor goes on with that object's rule, which isn't built yet: no machine has met one.
+use Rattle.std.specs.Prelude.{ℕ, zero, suc, ◌+◌, Bool, true, false, List, [], ◌∷◌, Option, Some, None, length, slice_get}
+use Rattle.std.specs.Str.{bytes_eq}
+use Rattle.std.specs.declared.result.Result.{Result}
+use Rattle.std.specs.declared.result.Result.TheVariants.{Ok, Err}
+use Rattle.door.specs.declared.values.Kind.{Kind as ThingKind}
+use Rattle.door.specs.declared.values.Kind.TheVariants.{Window, Document, Element, Str as StrThing, Comment, Event}
+use Rattle.door.specs.declared.requests.ErrorKind.{ErrorKind}
+use Rattle.js_semantics.specs.Primitives.{Undefined, Null, BoolPrim, NumberPrim, StrPrim, key_of}
+use Rattle.js_semantics.specs.Machine.{Machine, Cell, MetThing, Reference, Own, Thing, Foreign, Value, Primitive, Refers, Property, Datum, Accessor, cell_at, with_cell, thing_at, with_thing, undefined, text, count}
+use Rattle.js_semantics.specs.Places.{STRING_PROTOTYPE, NUMBER_PROTOTYPE, BOOLEAN_PROTOTYPE, WINDOW_PROTOTYPE, DOCUMENT_PROTOTYPE, ELEMENT_PROTOTYPE, CHARACTER_DATA_PROTOTYPE, EVENT_PROTOTYPE}
+use Rattle.js_semantics.specs.Properties.{own_of, own_keys, defined_of, removed_of, property_in, defined_in, removed_in, keys_in, place_spelled, length_key}
+use Rattle.js_semantics.specs.Solo.{Stuck}
+use Rattle.js_semantics.specs.Faults.{wrong_kind, no_properties, refusal_fault}
+use Rattle.js_semantics.specs.Evaluator.{Gives, Ends, Rest, With, Cont, Meaning, Evaluator, unvalued, fails_by}
+
+-- ---- along a chain of prototypes
+
+abbrev pub own_of_cell : Option Cell → List ℕ → Option Property
+own_of_cell None key = None
+own_of_cell (Some cell) key = own_of cell key
+
+abbrev pub own_of_thing : Option MetThing → List ℕ → Option Property
+own_of_thing None key = None
+own_of_thing (Some thing) key = property_in thing.slots key
+
+-- the own property of what a reference names (ECMAScript, 10.1.5)
+abbrev pub own_property : Machine → Reference → List ℕ → Option Property
+own_property m (Own place) key = own_of_cell (cell_at m place) key
+own_property m (Thing k) key = own_of_thing (thing_at m k) key
+own_property m (Foreign k) key = None
+
+-- the prototype of the interface that a thing has (Web IDL, interface prototype object)
+abbrev pub interface_prototype : ThingKind → ℕ
+interface_prototype Window = WINDOW_PROTOTYPE
+interface_prototype Document = DOCUMENT_PROTOTYPE
+interface_prototype Element = ELEMENT_PROTOTYPE
+interface_prototype StrThing = CHARACTER_DATA_PROTOTYPE
+interface_prototype Comment = CHARACTER_DATA_PROTOTYPE
+interface_prototype Event = EVENT_PROTOTYPE
+
+abbrev pub prototype_of_cell : Option Cell → Option Reference
+prototype_of_cell None = None
+prototype_of_cell (Some cell) = cell.prototype
+
+abbrev pub prototype_of_thing : Option MetThing → Option Reference
+prototype_of_thing None = None
+prototype_of_thing (Some thing) = Some (Own (interface_prototype thing.kind))
+
+-- the prototype (ECMAScript, 10.1.1)
+abbrev pub prototype_of : Machine → Reference → Option Reference
+prototype_of m (Own place) = prototype_of_cell (cell_at m place)
+prototype_of m (Thing k) = prototype_of_thing (thing_at m k)
+prototype_of m (Foreign k) = None
+
+-- what is found along a chain: nothing, a property, or an object of another that the chain comes to
+pub data Found : Type 0 where
+  Missing : Found
+  Stands : Property → Found
+  Beyond : (k : ℕ) → Found
+
+abbrev pub along : Option Property → Option Reference → (Reference → Found) → Found
+along (Some property) next rest = Stands property
+along None None rest = Missing
+along None (Some next) rest = rest next
+
+-- a property, from what a reference names along its prototypes, of which so many are looked at (ECMAScript, 10.1.8.1)
+unfoldable pub found_within : ℕ → Machine → Reference → List ℕ → Found
+found_within zero m r key = Missing
+found_within (suc n) m (Foreign k) key = Beyond k
+found_within (suc n) m r key = along (own_property m r key) (prototype_of m r) (λ next. found_within n m next key)
+
+-- no chain is longer than there are cells and things
+abbrev pub chain_bound : Machine → ℕ
+chain_bound m = length m.cells + length m.things + 1
+
+abbrev pub found : Machine → Reference → List ℕ → Found
+found m r key = found_within (chain_bound m) m r key
+
+-- ---- Get
+
+-- what is found is read: a getter is called on the receiver, and a missing one gives undefined (ECMAScript, 10.1.8.1)
+abbrev pub read_row : Evaluator → Value → Found → Meaning
+read_row ev this Missing m f c = c (Gives undefined) m f
+read_row ev this (Stands (Datum value writable enumerable)) m f c = c (Gives value) m f
+read_row ev this (Stands (Accessor None set enumerable)) m f c = c (Gives undefined) m f
+read_row ev this (Stands (Accessor (Some get) set enumerable)) m f c = ev.call (Refers (Own get)) this [] m f c
+read_row ev this (Beyond k) m f c = Stuck
+
+-- a text has its length and its scalars by place (ECMAScript, 10.4.3)
+abbrev pub scalar_text : Option ℕ → Option Value
+scalar_text None = None
+scalar_text (Some scalar) = Some (text (scalar ∷ []))
+
+abbrev pub length_of_text : List ℕ → Bool → Option Value
+length_of_text t true = Some (count (length t))
+length_of_text t false = None
+
+abbrev pub own_of_text : List ℕ → List ℕ → Option ℕ → Option Value
+own_of_text t key (Some place) = scalar_text (slice_get t place)
+own_of_text t key None = length_of_text t (bytes_eq key length_key)
+
+abbrev pub text_row : Evaluator → Value → List ℕ → Option Value → Meaning
+text_row ev this key (Some value) m f c = c (Gives value) m f
+text_row ev this key None m f c = read_row ev this (found m (Own STRING_PROTOTYPE) key) m f c
+
+-- Get (ECMAScript, 7.3.2 and 7.3.3)
+abbrev pub get_row : Evaluator → Value → List ℕ → Meaning
+get_row ev (Primitive Undefined) key m f c = fails_by no_properties c m f
+get_row ev (Primitive Null) key m f c = fails_by no_properties c m f
+get_row ev (Primitive (BoolPrim b)) key m f c = read_row ev (Primitive (BoolPrim b)) (found m (Own BOOLEAN_PROTOTYPE) key) m f c
+get_row ev (Primitive (NumberPrim z)) key m f c = read_row ev (Primitive (NumberPrim z)) (found m (Own NUMBER_PROTOTYPE) key) m f c
+get_row ev (Primitive (StrPrim t)) key m f c = text_row ev (Primitive (StrPrim t)) key (own_of_text t key (place_spelled key)) m f c
+get_row ev (Refers r) key m f c = read_row ev (Refers r) (found m r key) m f c
+
+-- ---- Define
+
+-- the cell as it was made, or the throw of why it can't be
+abbrev pub changed_row : ℕ → Result Cell ErrorKind → Meaning
+changed_row place (Ok cell) m f c = c Ends (with_cell m place cell) f
+changed_row place (Err kind) m f c = fails_by (refusal_fault kind) c m f
+
+abbrev pub define_in_cell : ℕ → List ℕ → Property → Option Cell → Meaning
+define_in_cell place key property None m f c = Stuck
+define_in_cell place key property (Some cell) m f c = changed_row place (defined_of cell key property) m f c
+
+abbrev pub define_in_thing : ℕ → List ℕ → Property → Option MetThing → Meaning
+define_in_thing k key property None m f c = Stuck
+define_in_thing k key property (Some thing) m f c = c Ends (with_thing m k (record thing { slots = defined_in thing.slots key property })) f
+
+-- an own property is defined (ECMAScript, 10.1.6); a whole property takes the place of one that stands
+abbrev pub define_row : Reference → List ℕ → Property → Meaning
+define_row (Own place) key property m f c = define_in_cell place key property (cell_at m place) m f c
+define_row (Thing k) key property m f c = define_in_thing k key property (thing_at m k) m f c
+define_row (Foreign k) key property m f c = Stuck
+
+-- ---- Set
+
+-- a setter is called on the receiver, and a missing one throws
+abbrev pub setter_row : Evaluator → Reference → Value → Option ℕ → Meaning
+setter_row ev r value None m f c = fails_by wrong_kind c m f
+setter_row ev r value (Some set) m f c = ev.call (Refers (Own set)) (Refers r) (value ∷ []) m f (unvalued c)
+
+-- what stands along the chain is no own property: one is added, unless what is found can't be written
+abbrev pub added_row : Evaluator → Reference → List ℕ → Value → Found → Meaning
+added_row ev r key value Missing m f c = define_row r key (Datum value true true) m f c
+added_row ev r key value (Stands (Datum old true enumerable)) m f c = define_row r key (Datum value true true) m f c
+added_row ev r key value (Stands (Datum old false enumerable)) m f c = fails_by wrong_kind c m f
+added_row ev r key value (Stands (Accessor get set enumerable)) m f c = setter_row ev r value set m f c
+added_row ev r key value (Beyond k) m f c = Stuck
+
+-- an own property is written, and else the chain is searched (ECMAScript, 10.1.9.2)
+abbrev pub written_row : Evaluator → Reference → List ℕ → Value → Option Property → Meaning
+written_row ev r key value (Some (Datum old true enumerable)) m f c = define_row r key (Datum value true enumerable) m f c
+written_row ev r key value (Some (Datum old false enumerable)) m f c = fails_by wrong_kind c m f
+written_row ev r key value (Some (Accessor get set enumerable)) m f c = setter_row ev r value set m f c
+written_row ev r key value None m f c = added_row ev r key value (found m r key) m f c
+
+-- Set (ECMAScript, 7.3.4)
+abbrev pub set_row : Evaluator → Value → List ℕ → Value → Meaning
+set_row ev (Primitive prim) key value m f c = fails_by wrong_kind c m f
+set_row ev (Refers r) key value m f c = written_row ev r key value (own_property m r key) m f c
+
+-- ---- Has, Delete, Keys
+
+abbrev pub has_found : Found → With Bool → Rest
+has_found Missing k m f = k false m f
+has_found (Stands property) k m f = k true m f
+has_found (Beyond j) k m f = Stuck
+
+-- Has (ECMAScript, 7.3.12)
+abbrev pub has_row : Reference → List ℕ → With Bool → Rest
+has_row r key k m f = has_found (found m r key) k m f
+
+abbrev pub delete_in_cell : ℕ → List ℕ → Option Cell → Meaning
+delete_in_cell place key None m f c = Stuck
+delete_in_cell place key (Some cell) m f c = changed_row place (removed_of cell key) m f c
+
+abbrev pub delete_in_thing : ℕ → List ℕ → Option MetThing → Meaning
+delete_in_thing k key None m f c = Stuck
+delete_in_thing k key (Some thing) m f c = c Ends (with_thing m k (record thing { slots = removed_in thing.slots key })) f
+
+-- Delete (ECMAScript, 10.1.10)
+abbrev pub delete_row : Value → List ℕ → Meaning
+delete_row (Primitive prim) key m f c = fails_by wrong_kind c m f
+delete_row (Refers (Own place)) key m f c = delete_in_cell place key (cell_at m place) m f c
+delete_row (Refers (Thing k)) key m f c = delete_in_thing k key (thing_at m k) m f c
+delete_row (Refers (Foreign k)) key m f c = Stuck
+
+abbrev pub keys_of_cell : Option Cell → With (List (List ℕ)) → Rest
+keys_of_cell None k m f = Stuck
+keys_of_cell (Some cell) k m f = k (own_keys cell) m f
+
+abbrev pub keys_of_thing : Option MetThing → With (List (List ℕ)) → Rest
+keys_of_thing None k m f = Stuck
+keys_of_thing (Some thing) k m f = k (keys_in thing.slots) m f
+
+-- the own enumerable keys (ECMAScript, 7.3.24)
+abbrev pub keys_row : Value → With (List (List ℕ)) → Cont → Rest
+keys_row (Primitive prim) k c m f = fails_by wrong_kind c m f
+keys_row (Refers (Own place)) k c m f = keys_of_cell (cell_at m place) k m f
+keys_row (Refers (Thing j)) k c m f = keys_of_thing (thing_at m j) k m f
+keys_row (Refers (Foreign j)) k c m f = Stuck
+
+-- a value as a key; a reference is none (ECMAScript, 7.1.19)
+abbrev pub key_row : Value → With (List ℕ) → Cont → Rest
+key_row (Primitive prim) k c m f = k (key_of prim) m f
+key_row (Refers r) k c m f = fails_by wrong_kind c m f

@@ -1,0 +1,124 @@
+-- What the operators do with values (ECMAScript, 13.5 to 13.11): the operators' table on primitives, and identity on references.
+use Rattle.std.specs.Prelude.{ℕ, zero, suc, Bool, true, false, not, List, Option, Some, None, ◌==◌, pos, codes, if◌then◌else◌, Result, Ok, Err}
+use Rattle.base_text.specs.declared.operators.BinaryOp.{BinaryOp}
+use Rattle.base_text.specs.declared.operators.BinaryOp.TheVariants as binary
+use Rattle.base_text.specs.declared.operators.UnaryOp.{UnaryOp}
+use Rattle.base_text.specs.declared.operators.UnaryOp.TheVariants as unary
+use Rattle.js_syntax.specs.declared.tree.UpdateOp.{UpdateOp}
+use Rattle.js_syntax.specs.declared.tree.UpdateOp.TheVariants.{Increment, Decrement}
+use Rattle.js_semantics.specs.Primitives.{PrimitiveValue, StrPrim, NumberPrim, OpFault, binary_of, unary_of, boolean_of}
+use Rattle.js_semantics.specs.Machine.{Machine, Cell, Form, Closure, Native, Reference, Own, Thing, Foreign, Value, Primitive, Refers, cell_at, boolean, text}
+use Rattle.js_semantics.specs.Faults.{wrong_kind, operator_fault}
+use Rattle.js_semantics.specs.Evaluator.{Gives, Meaning, Evaluator, bind, charge, text_units, fails_by}
+use Rattle.js_semantics.specs.Members.{prototype_of, chain_bound, get_row, has_row, key_row}
+
+-- truth; each reference is true (ECMAScript, 7.1.2)
+abbrev pub to_boolean : Value → Bool
+to_boolean (Primitive prim) = boolean_of prim
+to_boolean (Refers r) = true
+
+-- ---- identity
+
+abbrev pub is_same_reference : Reference → Reference → Bool
+is_same_reference (Own p) (Own q) = p == q
+is_same_reference (Thing j) (Thing k) = j == k
+is_same_reference (Foreign j) (Foreign k) = j == k
+is_same_reference r s = false
+
+-- references are the same by identity, and no reference is a primitive
+abbrev pub is_identical : Value → Value → Bool
+is_identical (Refers r) (Refers s) = is_same_reference r s
+is_identical x y = false
+
+-- ---- types
+
+abbrev pub form_is_function : Form → Bool
+form_is_function (Closure code scope) = true
+form_is_function (Native builtin) = true
+form_is_function form = false
+
+abbrev pub cell_is_function : Option Cell → Bool
+cell_is_function None = false
+cell_is_function (Some cell) = form_is_function cell.form
+
+-- an own function; a function of another isn't told from its other objects until scripts reach out
+abbrev pub is_function : Machine → Value → Bool
+is_function m (Refers (Own place)) = cell_is_function (cell_at m place)
+is_function m value = false
+
+-- ---- what an operator gives
+
+-- the text that an operator gives is charged
+abbrev pub answer_row : Result PrimitiveValue OpFault → Meaning
+answer_row (Ok (StrPrim t)) m f c = charge (text_units t) (c (Gives (text t))) c m f
+answer_row (Ok prim) m f c = c (Gives (Primitive prim)) m f
+answer_row (Err fault) m f c = fails_by (operator_fault fault) c m f
+
+-- with a reference on a side only identity is told
+abbrev pub identity_row : BinaryOp → Bool → Meaning
+identity_row binary.Same same m f c = c (Gives (boolean same)) m f
+identity_row binary.NotSame same m f c = c (Gives (boolean (not same))) m f
+identity_row binary.Equal same m f c = c (Gives (boolean same)) m f
+identity_row binary.NotEqual same m f c = c (Gives (boolean (not same))) m f
+identity_row op same m f c = fails_by wrong_kind c m f
+
+-- an operator between two operands
+abbrev pub binary_row : BinaryOp → Value → Value → Meaning
+binary_row op (Primitive a) (Primitive b) m f c = answer_row (binary_of op a b) m f c
+binary_row op x y m f c = identity_row op (is_identical x y) m f c
+
+abbrev pub type_of_reference : Bool → List ℕ
+type_of_reference true = codes "function"
+type_of_reference false = codes "object"
+
+-- an operator before its operand, which is a reference
+abbrev pub reference_row : UnaryOp → Value → Meaning
+reference_row unary.TypeOf value m f c = answer_row (Ok (StrPrim (type_of_reference (is_function m value)))) m f c
+reference_row unary.Not value m f c = c (Gives (boolean false)) m f
+reference_row op value m f c = fails_by wrong_kind c m f
+
+-- an operator before its operand
+abbrev pub unary_row : UnaryOp → Value → Meaning
+unary_row op (Primitive prim) m f c = answer_row (unary_of op prim) m f c
+unary_row op (Refers r) m f c = reference_row op (Refers r) m f c
+
+abbrev pub step_operator : UpdateOp → BinaryOp
+step_operator Increment = binary.Add
+step_operator Decrement = binary.Subtract
+
+-- one more or one less, of a number alone (ECMAScript, 13.4)
+abbrev pub step_row : UpdateOp → Value → Meaning
+step_row op (Primitive (NumberPrim z)) m f c = answer_row (binary_of (step_operator op) (NumberPrim z) (NumberPrim (pos 1))) m f c
+step_row op value m f c = fails_by wrong_kind c m f
+
+-- ---- `in` and `instanceof`
+
+-- `in` (ECMAScript, 13.10.1)
+abbrev pub in_row : Value → Value → Meaning
+in_row x (Refers r) m f c = key_row x (λ key. has_row r key (λ has. c (Gives (boolean has)))) c m f
+in_row x (Primitive prim) m f c = fails_by wrong_kind c m f
+
+abbrev pub is_next : Reference → Option Reference → (Reference → Bool) → Bool
+is_next target None rest = false
+is_next target (Some next) rest = if is_same_reference next target then true else rest next
+
+-- whether it stands along a chain, of which so many are looked at
+unfoldable pub is_above : ℕ → Machine → Reference → Reference → Bool
+is_above zero m target r = false
+is_above (suc n) m target r = is_next target (prototype_of m r) (λ next. is_above n m target next)
+
+abbrev pub on_chain_of : Machine → Reference → Value → Bool
+on_chain_of m target (Primitive prim) = false
+on_chain_of m target (Refers r) = is_above (chain_bound m) m target r
+
+abbrev pub instance_of : Value → Value → Meaning
+instance_of x (Refers target) m f c = c (Gives (boolean (on_chain_of m target x))) m f
+instance_of x (Primitive prim) m f c = fails_by wrong_kind c m f
+
+abbrev pub instance_if : Bool → Evaluator → Value → Value → Meaning
+instance_if true ev x callee m f c = get_row ev callee (codes "prototype") m f (bind (λ its m f. instance_of x its m f c) c)
+instance_if false ev x callee m f c = fails_by wrong_kind c m f
+
+-- `instanceof` asks for an own function whose prototype is a reference (ECMAScript, 7.3.22)
+abbrev pub instance_row : Evaluator → Value → Value → Meaning
+instance_row ev x callee m f c = instance_if (is_function m callee) ev x callee m f c

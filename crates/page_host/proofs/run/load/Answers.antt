@@ -1,0 +1,18 @@
+use Rattle.std.proofs.Common.{ap, map, Err}
+use Rattle.std.proofs.lemmas.Result.{err_from_is_err_and}
+use Rattle.std.specs.String.{string_bytes}
+use Rattle.page_host.proofs.Running.{after_names, after_page}
+use Rattle.page_host.proofs.run.load.Goals as goal
+
+pub returns-in_err-page-clause-refused : goal.returns-in_err-page-clause-refused
+returns-in_err-page-clause-refused g c =
+    let p = err_from_is_err_and c.from_residual-in_err-page.result c.from_residual-in_err-page.ensures.1 in
+    rw (p.1, p.2)
+    (after_names (g.F.Folder.files c.args.folder.now) (g.F.Folder.files c.load_names.new.folder) (map string_bytes c.in_ok-files.files.items) c.in_err-page.field-0.0 c.in_ok-files.ensures.same c.in_ok-files.ensures.told c.in_ok-files.ensures.forms c.in_err-page.ensures.refused)
+
+pub returns-in_err-scripts-clause-refused : goal.returns-in_err-scripts-clause-refused
+returns-in_err-scripts-clause-refused g c =
+    let p = err_from_is_err_and c.from_residual-in_err-scripts.result c.from_residual-in_err-scripts.ensures.1 in
+    rw (p.1, p.2)
+    (after_page (g.F.Folder.files c.args.folder.now) (g.F.Folder.files c.load_names.new.folder) (g.F.Folder.files c.load_page.new.folder) (map string_bytes c.in_ok-files.files.items) c.in_ok-page.page c.in_err-scripts.field-0.0 c.in_ok-files.ensures.same
+    c.in_ok-page.ensures.same c.in_ok-files.ensures.told c.in_ok-files.ensures.forms c.in_ok-page.ensures.told (λ is. rw c.as_slice.ensures.value at (c.in_err-scripts.ensures.not_yet (ap (λ e. Err e) is))) c.in_err-scripts.ensures.other)

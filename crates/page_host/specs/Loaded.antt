@@ -1,0 +1,66 @@
+-- What a run has read and output before it writes; this project's own.
+use Rattle.std.specs.Prelude.{◌≡◌, ◌≤◌, ℕ, IsTrue, List, codes, length, map, Option, Some, None, IfSome}
+use Rattle.std.specs.List.{list_all}
+use Rattle.std.specs.String.{string_bytes}
+use Rattle.outside.specs.Contents.{AreDistinct, Files, content}
+use Rattle.door.specs.declared.limits.TheConstants.{USERSCRIPT_LIMIT}
+use Rattle.small_forms.specs.Pages.{IsPage}
+use Rattle.solo_model.specs.Lawful.{IsLawful}
+use Rattle.solo_model.specs.Truth.{IsGenuine}
+use Rattle.page_host.specs.Faults.{IsRefusal, page_missing}
+use Rattle.page_host.specs.Names.{AreInOrder, IsScriptNames, is_userscript}
+use Rattle.page_host.specs.Printed.{document_of}
+use Rattle.page_host.specs.Report.{report_of}
+use Rattle.page_host.specs.Run.{AllActsAreSolo, input_of}
+use Rattle.page_host.specs.Scripts.{AreHeld, AreScripts, names_in, texts_in}
+use Rattle.page_host.specs.Steps.{Step, IsFirstFault}
+use Rattle.page_host.specs.declared.faults.HostFault.{HostFault}
+use Rattle.page_host.specs.declared.faults.HostFault.TheVariants.{Usage, PageRefused, ReadFault, WriteFault, NoMemory, TooManyScripts, NotYet}
+use Rattle.page_host.specs.declared.run.Loaded.{Loaded}
+use Rattle.page_host.specs.declared.run.RunOutput.{RunOutput}
+
+-- a fault that reading a folder can come to
+abbrev pub IsFolderFault : HostFault → Type 0
+IsFolderFault Usage = ⊥
+IsFolderFault (PageRefused fault) = PageRefused fault ≡ page_missing
+IsFolderFault ReadFault = Unit {0}
+IsFolderFault WriteFault = ⊥
+IsFolderFault NoMemory = Unit {0}
+IsFolderFault (TooManyScripts count) = Unit {0}
+IsFolderFault NotYet = Unit {0}
+
+-- a refusal is the first of these steps, where the files are told
+abbrev pub IsRefusedAt : Option Files → List Step → HostFault → Type 0
+IsRefusedAt told steps fault = IsRefusal fault → IfSome told (λ files. (words : List (List ℕ)) → IsFirstFault words files steps fault)
+
+-- names of userscripts in byte order, and not too many
+pub record AreChosen (names : List (List ℕ)) : Type 0 where
+  pub order : AreInOrder names
+  pub userscripts : IsTrue (list_all is_userscript names)
+  pub few : length names ≤ USERSCRIPT_LIMIT
+
+-- the names of a folder's userscripts, where it has no list of events
+pub record AreChosenOf (files : Files) (names : List (List ℕ)) : Type 0 where
+  pub named : IsScriptNames files names
+  pub eventless : content files (codes "events.txt") ≡ None
+
+-- what is read is of the forms that are read
+pub record IsFormed (loaded : Loaded) : Type 0 where
+  pub chosen : AreChosen (map string_bytes loaded.files.items)
+  pub paged : (bytes : List ℕ) × IsPage bytes loaded.page
+  pub count : length loaded.scripts.items ≡ length loaded.files.items
+  pub scripts_are : AreScripts loaded.scripts.items
+  pub distinct : AreDistinct (names_in loaded.scripts.items)
+
+-- what is read is that of these files
+pub record IsLoaded (files : Files) (loaded : Loaded) : Type 0 where
+  pub chosen : AreChosenOf files (map string_bytes loaded.files.items)
+  pub paged : (bytes : List ℕ) × (content files (codes "page.html") ≡ Some bytes) × IsPage bytes loaded.page
+  pub held : AreHeld files (map string_bytes loaded.files.items) loaded.scripts.items
+
+-- what is output of it is right
+pub record IsOutput (address : List ℕ) (loaded : Loaded) (output : RunOutput) : Type 0 where
+  pub lawful : IsLawful (input_of loaded.page (texts_in loaded.scripts.items)) output.journal.marks
+  pub genuine : IsGenuine output.journal.marks
+  pub acts : (other : List ℕ) → AllActsAreSolo other output.journal.marks
+  pub reported : output.report.items ≡ report_of address (map string_bytes loaded.files.items) (document_of output.journal.marks) output.journal.marks

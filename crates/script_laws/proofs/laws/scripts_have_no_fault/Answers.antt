@@ -1,5 +1,0 @@
-use Rattle.script_laws.proofs.FirstFaults.{no_fault}
-use Rattle.script_laws.proofs.laws.scripts_have_no_fault.Goals as goal
-
-pub returns : goal.returns
-returns c = λ chains levels tokens script fault a b. no_fault chains levels tokens script fault a b

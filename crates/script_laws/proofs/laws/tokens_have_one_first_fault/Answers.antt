@@ -1,5 +1,0 @@
-use Rattle.script_laws.proofs.FirstFaults.{one_fault}
-use Rattle.script_laws.proofs.laws.tokens_have_one_first_fault.Goals as goal
-
-pub returns : goal.returns
-returns c = λ chains levels tokens fault other a b. one_fault chains levels tokens fault other a b

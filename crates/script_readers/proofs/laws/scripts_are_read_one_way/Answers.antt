@@ -1,5 +1,0 @@
-use Rattle.script_readers.proofs.Parsed.{one_script}
-use Rattle.script_readers.proofs.laws.scripts_are_read_one_way.Goals as goal
-
-pub returns : goal.returns
-returns c = λ chains levels tokens script other a b. one_script chains levels tokens script other a b

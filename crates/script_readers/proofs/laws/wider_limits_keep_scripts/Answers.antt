@@ -1,5 +1,0 @@
-use Rattle.script_readers.proofs.Widening.{script_widens}
-use Rattle.script_readers.proofs.laws.wider_limits_keep_scripts.Goals as goal
-
-pub returns : goal.returns
-returns c = λ chains wide levels deep tokens script le lt a. script_widens chains wide levels deep le lt tokens script a
