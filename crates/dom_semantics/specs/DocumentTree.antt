@@ -1,5 +1,5 @@
 -- What each forest of a run keeps besides being one (DOM, 4.2 Node tree): which nodes have children, and what the document has.
-use Rattle.std.specs.Prelude.{◌≡◌, ◌||◌, ◌&&◌, Bool, true, not, count_by, is_some, nat_le, slice_get}
+use Rattle.std.specs.Prelude.{◌≡◌, ◌||◌, Bool, true, not, count_by, is_some, nat_le, slice_get}
 use Rattle.std.specs.List.{list_all, list_any}
 use Rattle.dom_semantics.specs.Forest.{Forest, Node, IsForest, children_of, form_at, is_element, is_text, takes_children}
 

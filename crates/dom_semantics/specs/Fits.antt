@@ -334,6 +334,18 @@ is_look_at_keys (answer.Keys keys) = list_all is_short keys
 is_look_at_keys answer.Denied = true
 is_look_at_keys a = false
 
+-- ---- operations on another's object
+
+-- the object is one of the owner's cells, or a thing as its owner sees it, which is the page's
+abbrev pub is_object_of : Actor → Value → Bool
+is_object_of owner (value.Cell holder place shape waived) = is_actor holder owner
+is_object_of owner (value.WaivedThing thing) = is_actor owner PAGE
+is_object_of owner v = false
+
+-- an actor has another one do something to an object of that one's
+abbrev pub is_serve : Actor → Actor → Value → Bool
+is_serve i owner object = is_look_of i owner && is_object_of owner object
+
 -- ---- ways out of the sandbox
 
 -- a way out: its arguments, the texts of its refusals, and what comes of it else

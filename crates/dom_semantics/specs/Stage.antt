@@ -1,5 +1,5 @@
 -- The stage: all of document, events, listeners, timers and store that scripts can ask about; this project's own in form.
-use Rattle.std.specs.Prelude.{◌≡◌, ◌-◌, ◌&&◌, ℕ, Bool, true, List, [], length, nat_eq, nat_le, nat_lt, count_by, slice_index_or, Option, Some, None}
+use Rattle.std.specs.Prelude.{◌≡◌, ◌-◌, ◌||◌, ◌&&◌, ℕ, Bool, true, not, List, [], length, nat_eq, nat_le, nat_lt, count_by, slice_index_or, Option, Some, None}
 use Rattle.std.specs.List.{list_all}
 use Rattle.base_text.specs.Scalars.{utf8_len}
 use Rattle.door.specs.declared.values.Actor.{Actor}
@@ -51,18 +51,23 @@ pub record IsReading (read : List ℕ → Option (List (List Compound))) : Type 
   pub some : (text : List ℕ) (chains : List (List Compound)) → read text ≡ Some chains → IsSelector chains text
   pub none : (text : List ℕ) (chains : List (List Compound)) → read text ≡ None → IsSelector chains text → ⊥
 
+-- the grant `none` stands alone (Greasemonkey manual, @grant)
+abbrev pub is_grant_set : GrantSet → Bool
+is_grant_set g = not g.no_grant || not (g.unsafe_window || g.get_value || g.set_value || g.delete_value || g.list_values || g.log)
+
 -- of two clocks the later one is set after no fewer marks, and to no earlier time
 abbrev pub is_clock_before : ℕ × ℕ → ℕ × ℕ → Bool
 is_clock_before a b = nat_le a.0 b.0 && nat_le a.1 b.1
 
 -- What a run is given is right where selectors are read by the grammar, address, names and number of scripts are within their limits, each
--- script has its grants, the loaded store is in order, which loading establishes, and no clock is set back.
+-- script has its grants, `none` by itself, the loaded store is in order, which loading establishes, and no clock is set back.
 pub record IsSetting (given : Setting) : Type 0 where
   pub reading : IsReading given.origin.read_selector
   pub address : nat_le (utf8_len given.origin.address) limits.ADDRESS_LIMIT ≡ true
   pub scripts : nat_le (length given.origin.owners) limits.USERSCRIPT_LIMIT ≡ true
   pub owners : list_all is_short_owner given.origin.owners ≡ true
   pub grants : length given.origin.grants ≡ length given.origin.owners
+  pub alone : list_all is_grant_set given.origin.grants ≡ true
   pub store : is_store given.stores ≡ true
   pub clocks : are_ascending is_clock_before given.clocks ≡ true
 

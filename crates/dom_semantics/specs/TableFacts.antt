@@ -1,6 +1,6 @@
 -- What fits the table of requests, what names a cell of the host, and what a run may be given, computed by the definitions alone. The expected
 -- values are those of the tables of this project.
-use Rattle.std.specs.Prelude.{◌≡◌, ℕ, Bool, true, false, List, [], ◌∷◌, ◌++◌, codes, pos, replicate}
+use Rattle.std.specs.Prelude.{◌≡◌, ℕ, Bool, true, false, List, [], ◌∷◌, ◌++◌, codes, pos, replicate, is_some}
 use Rattle.std.specs.List.{list_all}
 use Rattle.door.specs.declared.values.Actor.{Actor}
 use Rattle.door.specs.declared.values.Kind.TheVariants.{Element}
@@ -23,15 +23,15 @@ use Rattle.door.specs.declared.grants.GrantSet.{GrantSet}
 use Rattle.dom_semantics.specs.declared.kept.Kept.TheVariants as kept
 use Rattle.dom_semantics.specs.declared.kept.Owner.{Owner}
 use Rattle.dom_semantics.specs.DocumentTree.{are_leaves, has_one_element, has_no_text}
-use Rattle.dom_semantics.specs.Fits.{is_request_of, is_answer_to_request}
+use Rattle.dom_semantics.specs.Fits.{is_request_of, is_answer_to_request, is_serve}
 use Rattle.dom_semantics.specs.Forest.{Forest, Node, Form, Root, Tagged, Written, new_forest, the_host}
 use Rattle.dom_semantics.specs.Grants.{may_ask, no_grants}
 use Rattle.dom_semantics.specs.HostCells.{mark_has_owners}
 use Rattle.dom_semantics.specs.SelectorReadingModel.{read_selector}
-use Rattle.dom_semantics.specs.Stage.{Origin, Setting, start, is_clock_before}
+use Rattle.dom_semantics.specs.Stage.{Origin, Setting, start, is_clock_before, is_grant_set}
 use Rattle.dom_semantics.specs.Stores.{Stores, are_ascending, is_store}
 use Rattle.dom_semantics.specs.Things.{thing_of, the_window, the_document}
-use Rattle.dom_semantics.specs.Truth.{is_possible}
+use Rattle.dom_semantics.specs.Truth.{is_possible, reply_to}
 
 abbrev actor : ℕ → Actor
 actor n = record { 0 = n }
@@ -157,6 +157,16 @@ pub record TableFacts : Type 0 where
   pub waives : may 3 (reach.Waive window) ≡ true
   pub plain_waives : may 4 (reach.Waive window) ≡ false
   pub page_waives : may 1 (reach.Waive window) ≡ false
+  pub serves : is_serve (actor 2) (actor 1) (cell 1 Plain true) ≡ true
+  pub serves_window : is_serve (actor 2) (actor 1) (value.WaivedThing the_window) ≡ true
+  pub serves_itself : is_serve (actor 2) (actor 2) (cell 2 Plain true) ≡ false
+  pub serves_of_third : is_serve (actor 2) (actor 3) (cell 1 Plain true) ≡ false
+  pub none_alone : list_all is_grant_set origin.grants ≡ true
+  pub none_with_others : is_grant_set (record plain { unsafe_window = true }) ≡ false
+  -- what the host builds: a refusal is a reply, and what fits no row has none
+  pub refused_build : is_some (reply_to origin (start setting) the_host (Native m.DocumentCreateElement the_document (value.Str (codes "1") ∷ []))) ≡ true
+  pub misfit_build : is_some (reply_to origin (start setting) the_host (Native m.NodeAppendChild the_document (value.Str (codes "1") ∷ []))) ≡ false
+  pub absent_build : is_some (reply_to origin (start setting) the_host (Native m.NodeAppendChild the_document (value.Thing (thing_of Element 1) ∷ []))) ≡ false
   -- what is answered is there
   pub there : may_be 2 (Peek (actor 1) 300 (codes "a")) (gives (value.Thing the_document)) ≡ true
   pub not_there : may_be 2 (Peek (actor 1) 300 (codes "a")) (gives (value.Thing (thing_of Element 1))) ≡ false
