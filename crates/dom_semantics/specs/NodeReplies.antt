@@ -78,7 +78,7 @@ abbrev pub append_row : Row
 append_row given s i thing (ThingValue n ∷ []) = insert_reply s thing.number (ThingValue n) n.number None
 append_row given s i thing arguments = None
 
--- insertBefore: before null or undefined is last (Web IDL, 3.2.20 Nullable types)
+-- insertBefore: before null or undefined is last (Web IDL, Nullable types)
 abbrev pub insert_row : Row
 insert_row given s i thing (ThingValue n ∷ (ThingValue b ∷ [])) = insert_reply s thing.number (ThingValue n) n.number (Some b.number)
 insert_row given s i thing (ThingValue n ∷ (Null ∷ [])) = insert_reply s thing.number (ThingValue n) n.number None
