@@ -1,10 +1,8 @@
 -- The table of requests, this project's own: for each member what it is asked of, with which arguments, and what it may be answered or refused
 -- as; and the same for looks and for ways out of the sandbox. A request or an answer that doesn't fit the table is none of a run.
-use Rattle.std.specs.Prelude.{◌||◌, ◌&&◌, ℕ, Bool, true, false, not, List, [], ◌∷◌, nat_eq, nat_le, nat_lt, ℤ, pos, negsuc}
+use Rattle.std.specs.Prelude.{◌||◌, ◌&&◌, ℕ, Bool, true, false, not, List, [], ◌∷◌, nat_eq, nat_le, pos}
 use Rattle.std.specs.List.{list_all, list_any}
-use Rattle.base_text.specs.Scalars.{utf8_len}
-use Rattle.base_text.specs.declared.text.TheConstants.{TEXT_LIMIT}
-use Rattle.base_text.specs.declared.number.TheConstants.{MAX_SAFE_INTEGER}
+use Rattle.door.specs.declared.values.TheConstants.{PAGE}
 use Rattle.door.specs.declared.values.Actor.{Actor}
 use Rattle.door.specs.declared.values.Kind.{Kind}
 use Rattle.door.specs.declared.values.Kind.TheVariants as kind
@@ -19,8 +17,13 @@ use Rattle.door.specs.declared.requests.Answer.{Answer}
 use Rattle.door.specs.declared.requests.Answer.TheVariants as answer
 use Rattle.door.specs.declared.requests.Request.{Request}
 use Rattle.door.specs.declared.requests.Request.TheVariants.{Native, Peek, PeekKeys, Reach}
+use Rattle.door.specs.declared.requests.ReachOp.{ReachOp}
+use Rattle.door.specs.declared.requests.ReachOp.TheVariants as reach
 use Rattle.door.specs.declared.requests.ErrorKind.{ErrorKind}
 use Rattle.door.specs.declared.requests.ErrorKind.TheVariants as error
+use Rattle.dom_semantics.specs.Bounds.{is_short, is_safe}
+use Rattle.dom_semantics.specs.Crossings.{SCOPE_DENIED, export_refusals, is_in, is_walk_refusal}
+use Rattle.dom_semantics.specs.HostCells.{owns_cells, has_owner}
 use Rattle.dom_semantics.specs.Things.{is_actor, is_kind, is_node_kind, the_window, is_thing}
 
 -- what a value may be; texts and numbers are within their limits, and no value names a cell of the host, which owns none
@@ -34,6 +37,7 @@ pub data Sort : Type 0 where
   TextOrNull : Sort
   OneOf : List Kind → Sort
   OneOfOrNull : List Kind → Sort
+  OneOfOrNone : List Kind → Sort
   Callback : Sort
   CallbackOrNone : Sort
   Storable : Sort
@@ -131,7 +135,7 @@ signature m.NodeTextContent = of OfNode [] (One TextOrNull) (error.TooLong ∷ [
 signature m.NodeSetTextContent = of OfNode (Text ∷ []) (One Nothing) (error.Limit ∷ error.TooDeep ∷ [])
 signature m.NodeAppendChild = of OfNode (OneOf nodes ∷ []) (One (OneOf children)) (error.Hierarchy ∷ error.TooDeep ∷ [])
 signature m.NodeInsertBefore =
-    of OfNode (OneOf nodes ∷ OneOfOrNull nodes ∷ []) (One (OneOf children)) (error.Hierarchy ∷ error.NotFound ∷ error.TooDeep ∷ [])
+    of OfNode (OneOf nodes ∷ OneOfOrNone nodes ∷ []) (One (OneOf children)) (error.Hierarchy ∷ error.NotFound ∷ error.TooDeep ∷ [])
 signature m.NodeRemoveChild = of OfNode (OneOf nodes ∷ []) (One (OneOf children)) (error.NotFound ∷ [])
 signature m.NodeRemove = reads OfNode Nothing
 signature m.NodeCloneNode = of OfOtherNode (Flag ∷ []) (One (OneOf children)) (error.Limit ∷ [])
@@ -198,10 +202,6 @@ abbrev pub is_undefined : Value → Bool
 is_undefined value.Undefined = true
 is_undefined v = false
 
--- no longer than a text may be, in bytes of UTF-8
-abbrev pub is_short : List ℕ → Bool
-is_short t = nat_le (utf8_len t) TEXT_LIMIT
-
 abbrev pub is_text : Value → Bool
 is_text (value.Str text) = is_short text
 is_text v = false
@@ -210,19 +210,13 @@ abbrev pub is_flag : Value → Bool
 is_flag (value.Bool flag) = true
 is_flag v = false
 
--- no further from 0 than a number may be (ECMAScript, Number.MAX_SAFE_INTEGER)
-abbrev pub is_within : ℤ → ℤ → Bool
-is_within (pos most) (pos n) = nat_le n most
-is_within (pos most) (negsuc n) = nat_lt n most
-is_within limit n = false
-
 abbrev pub is_number : Value → Bool
-is_number (value.Number n) = is_within MAX_SAFE_INTEGER n
+is_number (value.Number n) = is_safe n
 is_number v = false
 
 -- a number from 0 on
 abbrev pub is_count : Value → Bool
-is_count (value.Number (pos n)) = is_within MAX_SAFE_INTEGER (pos n)
+is_count (value.Number (pos n)) = is_safe (pos n)
 is_count v = false
 
 -- a function of the actor's own, by its place among its proper cells
@@ -234,14 +228,9 @@ abbrev pub is_own_function : Actor → Value → Bool
 is_own_function i (value.Cell owner place shape waived) = is_actor owner i && is_function_shape shape && not waived
 is_own_function i v = false
 
--- the host owns no cell
-abbrev pub has_owner : Value → Bool
-has_owner (value.Cell owner place shape waived) = not (nat_eq owner.0 0)
-has_owner v = true
-
 abbrev pub is_within_limits : Value → Bool
 is_within_limits (value.Str text) = is_short text
-is_within_limits (value.Number n) = is_within MAX_SAFE_INTEGER n
+is_within_limits (value.Number n) = is_safe n
 is_within_limits v = has_owner v
 
 abbrev pub is_waived : Value → Bool
@@ -259,6 +248,7 @@ is_of_sort i Text v = is_text v
 is_of_sort i TextOrNull v = is_text v || is_null v
 is_of_sort i (OneOf kinds) v = is_one_of kinds v
 is_of_sort i (OneOfOrNull kinds) v = is_one_of kinds v || is_null v
+is_of_sort i (OneOfOrNone kinds) v = is_one_of kinds v || is_null v || is_undefined v
 is_of_sort i Callback v = is_own_function i v
 is_of_sort i CallbackOrNone v = is_own_function i v || is_null v || is_undefined v
 is_of_sort i Storable v = is_text v || is_flag v || is_number v
@@ -326,7 +316,11 @@ is_answer_to i s a = has_shape i s.result a
 abbrev pub is_answer : Actor → Member → Answer → Bool
 is_answer i member a = is_answer_to i (signature member) a
 
--- ---- looks, and ways out of the sandbox
+-- ---- looks
+
+-- what is looked at is another actor's
+abbrev pub is_look_of : Actor → Actor → Bool
+is_look_of i owner = owns_cells owner && owns_cells i && not (is_actor owner i)
 
 -- a look at a property of another actor's object: its value as the reader gets it, that there is none, or no right to it
 abbrev pub is_look : Answer → Bool
@@ -340,16 +334,100 @@ is_look_at_keys (answer.Keys keys) = list_all is_short keys
 is_look_at_keys answer.Denied = true
 is_look_at_keys a = false
 
--- a way out of the sandbox: a value, or the text of a crossing that is refused; the code that serves it may be stopped
-abbrev pub is_way_out : Answer → Bool
-is_way_out (answer.Value v) = is_within_limits v
-is_way_out (answer.Throw (error.Crossing text)) = is_short text
-is_way_out answer.Stopped = true
-is_way_out a = false
+-- ---- operations on another's object
+
+-- the object is one of the owner's cells, or a thing as its owner sees it, which is the page's
+abbrev pub is_object_of : Actor → Value → Bool
+is_object_of owner (value.Cell holder place shape waived) = is_actor holder owner
+is_object_of owner (value.WaivedThing thing) = is_actor owner PAGE
+is_object_of owner v = false
+
+-- an actor has another one do something to an object of that one's
+abbrev pub is_serve : Actor → Actor → Value → Bool
+is_serve i owner object = is_look_of i owner && is_object_of owner object
+
+-- ---- ways out of the sandbox
+
+-- a way out: its arguments, the texts of its refusals, and what comes of it else
+pub record WayOut : Type 0 where
+  pub arguments : List Value
+  pub is_refusal : List ℕ → Bool
+  pub is_result : Value → Bool
+
+-- the row of one that isn't refused
+abbrev pub never : List ℕ → Bool
+never text = false
+
+-- a value that isn't a reference
+abbrev pub is_primitive : Value → Bool
+is_primitive (value.Thing thing) = false
+is_primitive (value.WaivedThing thing) = false
+is_primitive (value.Cell owner place shape waived) = false
+is_primitive v = true
+
+-- the page's window waived
+abbrev pub is_waived_window : Value → Bool
+is_waived_window (value.WaivedThing thing) = is_thing the_window thing
+is_waived_window v = false
+
+abbrev pub is_plain_shape : CellShape → Bool
+is_plain_shape shape.Plain = true
+is_plain_shape s = false
+
+-- a waived object of the page, of such a shape
+abbrev pub is_of_page : (CellShape → Bool) → Value → Bool
+is_of_page is_shape (value.Cell owner place shape waived) = is_actor owner PAGE && waived && is_shape shape
+is_of_page is_shape v = false
+
+abbrev pub is_waived_thing : Value → Bool
+is_waived_thing (value.WaivedThing thing) = true
+is_waived_thing v = false
+
+-- what is waived, what isn't, and a copy in the page
+abbrev pub is_bare : Value → Bool
+is_bare v = is_within_limits v && (is_primitive v || is_waived v)
+
+abbrev pub is_covered : Value → Bool
+is_covered v = is_within_limits v && not (is_waived v)
+
+abbrev pub is_copy : Value → Bool
+is_copy v = is_within_limits v && (is_primitive v || is_waived_thing v || is_of_page (λ s. true) v)
+
+-- the rows of the ways out (Greasemonkey manual, unsafeWindow; MDN, Xray vision and Components.utils)
+abbrev pub way_out : ReachOp → WayOut
+way_out (reach.Waive v) = record { arguments = v ∷ []; is_refusal = never; is_result = is_bare }
+way_out (reach.Unwaive v) = record { arguments = v ∷ []; is_refusal = never; is_result = is_covered }
+way_out reach.UnsafeWindow = record { arguments = []; is_refusal = never; is_result = is_waived_window }
+way_out (reach.Export f scope options) =
+    record { arguments = f ∷ scope ∷ options ∷ []; is_refusal = is_in export_refusals; is_result = is_of_page is_function_shape }
+way_out (reach.CreateIn scope options) =
+    record { arguments = scope ∷ options ∷ []; is_refusal = is_in (SCOPE_DENIED ∷ []); is_result = is_of_page is_plain_shape }
+way_out (reach.Clone source scope options functions reflectors) =
+    record { arguments = source ∷ scope ∷ options ∷ []; is_refusal = λ text. is_in (SCOPE_DENIED ∷ []) text || is_walk_refusal text; is_result = is_copy }
+
+-- what a userscript asks fits the row
+abbrev pub is_reach : Actor → WayOut → Bool
+is_reach i way = is_script i && list_all is_within_limits way.arguments
+
+-- its answer: a refusal of its own, what comes of it, or that there was no room, by which its asker is stopped
+abbrev pub is_way_out : WayOut → Answer → Bool
+is_way_out way (answer.Value v) = way.is_result v
+is_way_out way (answer.Throw (error.Crossing text)) = way.is_refusal text
+is_way_out way answer.Stopped = true
+is_way_out way a = false
+
+-- ---- all requests
+
+-- whether what an actor asks fits the table
+abbrev pub is_request_of : Actor → Request → Bool
+is_request_of i (Native member thing arguments) = is_request i member thing arguments
+is_request_of i (Peek owner place key) = is_look_of i owner && is_short key
+is_request_of i (PeekKeys owner place) = is_look_of i owner
+is_request_of i (Reach operation) = is_reach i (way_out operation)
 
 -- whether an answer fits its request
 abbrev pub is_answer_to_request : Actor → Request → Answer → Bool
 is_answer_to_request i (Native member thing arguments) a = is_answer i member a
 is_answer_to_request i (Peek owner place key) a = is_look a
 is_answer_to_request i (PeekKeys owner place) a = is_look_at_keys a
-is_answer_to_request i (Reach operation) a = is_way_out a
+is_answer_to_request i (Reach operation) a = is_way_out (way_out operation) a

@@ -1,10 +1,14 @@
--- Which of its functions a userscript may ask for: those that it was granted (Greasemonkey manual, @grant).
-use Rattle.std.specs.Prelude.{◌-◌, Bool, true, false, nat_le, slice_get, if◌then◌else◌, Option, None}
+-- Which of its functions and which ways out a userscript may ask for: those that it was granted (Greasemonkey manual, @grant).
+use Rattle.std.specs.Prelude.{◌-◌, ◌&&◌, Bool, true, false, not, nat_le, slice_get, if◌then◌else◌, Option, None}
 use Rattle.std.specs.Option.{option_map_or}
 use Rattle.door.specs.declared.grants.GrantSet.{GrantSet}
 use Rattle.door.specs.declared.values.Actor.{Actor}
 use Rattle.door.specs.declared.members.Member.{Member}
 use Rattle.door.specs.declared.members.Member.TheVariants.{GmLog, GmGetValue, GmSetValue, GmDeleteValue, GmListValues}
+use Rattle.door.specs.declared.requests.Request.{Request}
+use Rattle.door.specs.declared.requests.Request.TheVariants.{Native, Reach}
+use Rattle.door.specs.declared.requests.ReachOp.{ReachOp}
+use Rattle.door.specs.declared.requests.ReachOp.TheVariants.{UnsafeWindow}
 use Rattle.dom_semantics.specs.Stage.{Origin}
 
 -- whether these grants name the function; other members ask for no grant
@@ -33,3 +37,18 @@ no_grants = record {
 
 abbrev pub is_granted : Origin → Actor → Member → Bool
 is_granted origin i member = option_map_or (λ grants. has_grant member grants) (grants_of origin i) (has_grant member no_grants)
+
+-- whether a script with these grants has the way out: with `none` it has no sandbox to leave, and unsafeWindow is granted by its name
+abbrev pub has_way_out : ReachOp → GrantSet → Bool
+has_way_out UnsafeWindow grants = not grants.no_grant && grants.unsafe_window
+has_way_out operation grants = not grants.no_grant
+
+-- nobody else than a userscript has one
+abbrev pub may_reach : Origin → Actor → ReachOp → Bool
+may_reach origin i operation = option_map_or (λ grants. has_way_out operation grants) (grants_of origin i) false
+
+-- the same of all requests; a look asks for no grant
+abbrev pub may_ask : Origin → Actor → Request → Bool
+may_ask origin i (Native member thing arguments) = is_granted origin i member
+may_ask origin i (Reach operation) = may_reach origin i operation
+may_ask origin i request = true

@@ -1,6 +1,9 @@
+pub mod Bounds
 pub mod Changes
 pub mod CollapseModel
+pub mod Crossings
 pub mod DocumentReplies
+pub mod DocumentTree
 pub mod ElementReplies
 pub mod EventCaseFacts
 pub mod EventCases
@@ -10,6 +13,7 @@ pub mod Fits
 pub mod Forest
 pub mod GmReplies
 pub mod Grants
+pub mod HostCells
 pub mod Listeners
 pub mod Names
 pub mod NodeReplies
@@ -29,6 +33,7 @@ pub mod SelectorStatesModel
 pub mod Stage
 pub mod StageOf
 pub mod Stores
+pub mod TableFacts
 pub mod TargetReplies
 pub mod Things
 pub mod Timers

@@ -2,7 +2,7 @@
 use Rattle.std.specs.Prelude.{ℕ, List, [], ◌∷◌, length, nat_eq, if◌then◌else◌, option_and_then, Option, Some, None}
 use Rattle.std.specs.Option.{option_map_or}
 use Rattle.door.specs.declared.values.Value.{Value}
-use Rattle.door.specs.declared.values.Value.TheVariants.{Thing as ThingValue, Str, Null, Bool as BoolValue}
+use Rattle.door.specs.declared.values.Value.TheVariants.{Thing as ThingValue, Str, Null, Undefined, Bool as BoolValue}
 use Rattle.door.specs.declared.members.Member.{Member}
 use Rattle.door.specs.declared.members.Member.TheVariants as m
 use Rattle.dom_semantics.specs.Forest.{Forest, form_at, children_of, is_document, is_inclusive_ancestor, parent_of, first_child_of, next_sibling_of, text_of}
@@ -78,10 +78,11 @@ abbrev pub append_row : Row
 append_row given s i thing (ThingValue n ∷ []) = insert_reply s thing.number (ThingValue n) n.number None
 append_row given s i thing arguments = None
 
--- insertBefore: before null is last
+-- insertBefore: before null or undefined is last (Web IDL, Nullable types)
 abbrev pub insert_row : Row
 insert_row given s i thing (ThingValue n ∷ (ThingValue b ∷ [])) = insert_reply s thing.number (ThingValue n) n.number (Some b.number)
 insert_row given s i thing (ThingValue n ∷ (Null ∷ [])) = insert_reply s thing.number (ThingValue n) n.number None
+insert_row given s i thing (ThingValue n ∷ (Undefined ∷ [])) = insert_reply s thing.number (ThingValue n) n.number None
 insert_row given s i thing arguments = None
 
 -- removeChild

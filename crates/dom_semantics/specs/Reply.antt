@@ -58,3 +58,8 @@ unless (Some reason) s reply = Some (record { refusal = Some reason; answer = Th
 abbrev pub Is : Option Reply → Answer → Stage → Type 0
 Is None answer next = ⊥
 Is (Some reply) answer next = (answer ≡ reply.answer) × (next ≡ reply.next)
+
+-- the same whatever the stage is then
+abbrev pub IsAnswered : Option Reply → Answer → Type 0
+IsAnswered None answer = ⊥
+IsAnswered (Some reply) answer = answer ≡ reply.answer

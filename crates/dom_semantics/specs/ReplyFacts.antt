@@ -172,6 +172,7 @@ pub record ReplyFacts : Type 0 where
   pub moved : Tells (inserts body p (thing div) ∷ ask m.NodeChildNodes body [] ∷ ask m.NodePreviousSibling div [] ∷ ask m.NodeNextSibling p [] ∷ [])
       (node p ∷ list (p ∷ div ∷ thing_of Comment 7 ∷ []) ∷ node p ∷ node div ∷ [])
   -- removeChild, remove
+  pub undefined_is_last : Tells (inserts body span value.Undefined ∷ ask m.NodeLastChild body [] ∷ []) (node span ∷ node span ∷ [])
   pub removed : Tells (ask m.NodeRemoveChild div (thing p ∷ []) ∷ ask m.NodeRemoveChild body (thing p ∷ []) ∷ ask m.NodeParentNode p []
       ∷ ask m.NodeRemove p [] ∷ [])
       (refused error.NotFound ∷ node p ∷ none ∷ done ∷ [])

@@ -1,5 +1,7 @@
 -- The stage: all of document, events, listeners, timers and store that scripts can ask about; this project's own in form.
-use Rattle.std.specs.Prelude.{◌≡◌, ◌-◌, ◌&&◌, ℕ, Bool, true, List, [], length, nat_eq, nat_lt, count_by, slice_index_or, Option, Some, None}
+use Rattle.std.specs.Prelude.{◌≡◌, ◌-◌, ◌||◌, ◌&&◌, ℕ, Bool, true, not, List, [], length, nat_eq, nat_le, nat_lt, count_by, slice_index_or, Option, Some, None}
+use Rattle.std.specs.List.{list_all}
+use Rattle.base_text.specs.Scalars.{utf8_len}
 use Rattle.door.specs.declared.values.Actor.{Actor}
 use Rattle.door.specs.declared.grants.GrantSet.{GrantSet}
 use Rattle.door.specs.declared.limits.TheConstants as limits
@@ -16,7 +18,7 @@ use Rattle.dom_semantics.specs.Listeners.{Listeners, no_listeners}
 use Rattle.dom_semantics.specs.Timers.{Timers, no_timers}
 use Rattle.dom_semantics.specs.declared.selectors.Compound.{Compound}
 use Rattle.dom_semantics.specs.SelectorGrammar.{IsSelector}
-use Rattle.dom_semantics.specs.Stores.{Stores, is_store}
+use Rattle.dom_semantics.specs.Stores.{Stores, are_ascending, is_short_owner, is_store}
 
 -- nodes and events have the numbers of their making; the actors of the dispatches that haven't come back, the innermost first, and of
 -- those that were made in this turn
@@ -49,10 +51,25 @@ pub record IsReading (read : List ℕ → Option (List (List Compound))) : Type 
   pub some : (text : List ℕ) (chains : List (List Compound)) → read text ≡ Some chains → IsSelector chains text
   pub none : (text : List ℕ) (chains : List (List Compound)) → read text ≡ None → IsSelector chains text → ⊥
 
--- What a run is given is right where selectors are read by the grammar and the loaded store is in order, which loading establishes.
+-- the grant `none` stands alone (Greasemonkey manual, @grant)
+abbrev pub is_grant_set : GrantSet → Bool
+is_grant_set g = not g.no_grant || not (g.unsafe_window || g.get_value || g.set_value || g.delete_value || g.list_values || g.log)
+
+-- of two clocks the later one is set after no fewer marks, and to no earlier time
+abbrev pub is_clock_before : ℕ × ℕ → ℕ × ℕ → Bool
+is_clock_before a b = nat_le a.0 b.0 && nat_le a.1 b.1
+
+-- What a run is given is right where selectors are read by the grammar, address, names and number of scripts are within their limits, each
+-- script has its grants, `none` by itself, the loaded store is in order, which loading establishes, and no clock is set back.
 pub record IsSetting (given : Setting) : Type 0 where
   pub reading : IsReading given.origin.read_selector
+  pub address : nat_le (utf8_len given.origin.address) limits.ADDRESS_LIMIT ≡ true
+  pub scripts : nat_le (length given.origin.owners) limits.USERSCRIPT_LIMIT ≡ true
+  pub owners : list_all is_short_owner given.origin.owners ≡ true
+  pub grants : length given.origin.grants ≡ length given.origin.owners
+  pub alone : list_all is_grant_set given.origin.grants ≡ true
   pub store : is_store given.stores ≡ true
+  pub clocks : are_ascending is_clock_before given.clocks ≡ true
 
 -- the document alone, which the host made, and the loaded store
 abbrev pub start : Setting → Stage

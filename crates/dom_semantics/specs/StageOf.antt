@@ -31,7 +31,7 @@ abbrev pub next_or : Option Reply → Stage → Stage
 next_or None s = s
 next_or (Some reply) s = reply.next
 
--- what the host makes; a request that is refused changes nothing
+-- what the host makes; a request that is refused changes nothing, and one that has no reply is no mark of a run (Truth, IsTrueBuild)
 abbrev pub built : Origin → Stage → Request → Stage
 built given s (Native member thing arguments) = next_or (reply_of given s the_host member thing arguments) s
 built given s request = s

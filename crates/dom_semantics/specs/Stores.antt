@@ -1,5 +1,5 @@
 -- What userscripts keep: a finite map for each namespace and name, in the byte order of its keys (Greasemonkey manual, GM_setValue).
-use Rattle.std.specs.Prelude.{◌||◌, ◌&&◌, ℕ, Bool, true, not, List, [], ◌∷◌, map, length, filter, nat_lt, is_some, if◌then◌else◌, Option, Some, None}
+use Rattle.std.specs.Prelude.{◌||◌, ◌&&◌, ℕ, Bool, true, not, List, [], ◌∷◌, map, length, filter, nat_le, nat_lt, is_some, if◌then◌else◌, Option, Some, None}
 use Rattle.std.specs.List.{list_all}
 use Rattle.std.specs.Str.{bytes_eq}
 use Rattle.std.specs.Ordering.{is_lt}
@@ -8,6 +8,7 @@ use Rattle.door.specs.declared.values.Value.{Value}
 use Rattle.door.specs.declared.values.Value.TheVariants as value
 use Rattle.door.specs.declared.requests.ErrorKind.{ErrorKind}
 use Rattle.door.specs.declared.requests.ErrorKind.TheVariants.{Limit}
+use Rattle.dom_semantics.specs.Bounds.{is_short, is_safe}
 use Rattle.dom_semantics.specs.declared.kept.Kept.{Kept}
 use Rattle.dom_semantics.specs.declared.kept.Kept.TheVariants.{Str, Bool as KeptBool, Number}
 use Rattle.dom_semantics.specs.declared.kept.Owner.{Owner}
@@ -77,21 +78,36 @@ kept_of (value.Bool flag) = Some (KeptBool flag)
 kept_of (value.Number n) = Some (Number n)
 kept_of v = None
 
--- ---- order, which loading establishes
+-- ---- order and limits, which loading establishes
 
--- each of these is followed by a greater one
+-- each of these is followed by one that may come after it
 abbrev pub are_ascending : {X : Type 0} → (X → X → Bool) → List X → Bool
 are_ascending less [] = true
 are_ascending less (x ∷ []) = true
 are_ascending less (x ∷ (y ∷ ys)) = less x y && are_ascending less (y ∷ ys)
 
--- each key once, in the order of bytes
+-- a value within the limits of texts and numbers, and under a key that is
+abbrev pub is_kept : Kept → Bool
+is_kept (Str text) = is_short text
+is_kept (KeptBool flag) = true
+is_kept (Number n) = is_safe n
+
+abbrev pub is_entry : List ℕ × Kept → Bool
+is_entry v = is_short v.0 && is_kept v.1
+
+-- each key once, in the order of bytes, and no more than the limit
 abbrev pub is_key_before : List ℕ → List ℕ → Bool
 is_key_before a b = is_lt (text_cmp a b)
 
 abbrev pub are_values : Values → Bool
-are_values vs = are_ascending is_key_before (keys_in vs)
+are_values vs = are_ascending is_key_before (keys_in vs) && list_all is_entry vs && nat_le (length vs) VALUE_LIMIT
 
--- each owner once, by namespace and then by name, and its keys in order
+-- a namespace and a name within the limit of texts
+abbrev pub is_short_owner : Owner → Bool
+is_short_owner owner = is_short owner.namespace && is_short owner.name
+
+-- each owner once, by namespace and then by name, and its values so
 abbrev pub is_store : Stores → Bool
-is_store stores = are_ascending is_before (map (λ (s : Owner × Values). s.0) stores) && list_all (λ (s : Owner × Values). are_values s.1) stores
+is_store stores =
+    are_ascending is_before (map (λ (s : Owner × Values). s.0) stores)
+    && list_all (λ (s : Owner × Values). is_short_owner s.0 && are_values s.1) stores

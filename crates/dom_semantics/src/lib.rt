@@ -4,6 +4,7 @@
 //! that the tree, the queries, the run and what is claimed of it speak of one document.
 #![tactic(auto)]
 
+mod crossings;
 mod events;
 mod facts;
 mod kept;
@@ -12,9 +13,10 @@ mod readiness;
 mod selectors;
 mod timers;
 
+pub use crossings::PATH_LIMIT;
 pub use events::{Event, EventForm, Flag};
 pub use facts::{
-    event_cases_are_computed, replies_are_computed, selector_cases_are_computed,
+    event_cases_are_computed, replies_are_computed, selector_cases_are_computed, table_is_computed,
     tree_cases_are_computed, walks_are_computed,
 };
 pub use kept::{Kept, Owner, VALUE_LIMIT};

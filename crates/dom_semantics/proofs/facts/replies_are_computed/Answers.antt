@@ -19,6 +19,7 @@ returns c = record {
   comment_in_document = refl;
   before_itself = refl;
   moved = refl;
+  undefined_is_last = refl;
   removed = refl;
   moves = refl;
   owners = refl;
