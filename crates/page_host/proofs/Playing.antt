@@ -11,10 +11,13 @@ use Rattle.door.specs.declared.requests.Request.{Request}
 use Rattle.door.specs.declared.values.Actor.{Actor}
 use Rattle.door.specs.declared.zones.Zone.{Zone}
 use Rattle.door.specs.declared.zones.Zone.TheVariants.{Host, Page as PageZone, PlainScript, XrayScript}
+use Rattle.small_forms.specs.declared.limits.TheConstants.{SMALL_PAGE_LIMIT}
 use Rattle.small_forms.specs.declared.page.Page.{Page}
+use Rattle.small_forms.specs.declared.page.PageScript.{PageScript}
 use Rattle.small_forms.specs.declared.script.Line.{Line}
+use Rattle.small_forms.specs.declared.userscript.ScriptFile.{ScriptFile}
 use Rattle.small_forms.specs.declared.userscript.Userscript.{Userscript}
-use Rattle.small_forms.specs.Pages.{IsPage, blocks_text, element_text}
+use Rattle.small_forms.specs.Pages.{IsPage, blocks_text, element_text, script_texts}
 use Rattle.small_forms.specs.Scripts.{IsPageScript, IsUserscript}
 use Rattle.js_semantics.specs.Entries.{LEVELS, beginning, enters}
 use Rattle.js_semantics.specs.Intrinsics.{Setup}
@@ -34,16 +37,21 @@ use Rattle.small_meaning.specs.Shows.{AreFit, FitsEntry, MayRun, entries_in}
 use Rattle.small_meaning.proofs.Shown.{All, OfScript, entries_few, shown_fit, tasks_length, turns_enter}
 use Rattle.small_eval.specs.Idle.{AreIdle}
 use Rattle.small_eval.specs.Pieces.{after_blocks, after_script, block_writes, head_writes, pieces_from}
-use Rattle.small_eval.specs.Turns.{AreUserscripts}
+use Rattle.small_eval.specs.Turns.{AreUserscripts, file_texts}
 use Rattle.page_host.specs.Run.{AllActsAreSolo, input_of, log_grant, no_grants, setups_of}
-use Rattle.page_host.specs.Scripts.{AreScripts, texts_in}
+use Rattle.page_host.specs.Scripts.{AreScripts, texts_in, userscripts_in}
 
--- the text of each userscript is that of a userscript
-pub texts_are : (scripts : List Userscript) → AreScripts scripts → AreUserscripts (texts_in scripts)
-texts_are [] h = tt
-texts_are (script ∷ scripts) h = ((script.name, h.0.0, h.0.1), texts_are scripts h.1)
+-- each userscript is read as its lines
+pub userscripts_are : (scripts : List ScriptFile) → AreScripts (userscripts_in scripts) → AreUserscripts scripts
+userscripts_are [] h = tt
+userscripts_are (script ∷ scripts) h = (h.0, userscripts_are scripts h.1)
 
-pub texts_few : (scripts : List Userscript) (most : ℕ) → length scripts ≤ most → length (texts_in scripts) ≤ most
+-- their texts, with and without names of files
+pub same_texts : (scripts : List ScriptFile) → file_texts scripts ≡ texts_in (userscripts_in scripts)
+same_texts [] = refl
+same_texts (script ∷ scripts) = ap (λ texts. script.script.text ∷ texts) (same_texts scripts)
+
+texts_few : (scripts : List Userscript) (most : ℕ) → length scripts ≤ most → length (texts_in scripts) ≤ most
 texts_few scripts most h = rw (length-map scripts (λ (script : Userscript). script.text)) h
 
 -- a userscript sees the page through Xrays
@@ -68,16 +76,16 @@ apart address j = among_none (nat_eq j.0 1) (record { zone = PageZone; grants = 
 -- ---- what the scripts of a run are
 
 -- each of these texts is no longer than all of them in their elements
-texts_short : (texts : List (List ℕ)) (most : ℕ) → length (flat_map element_text texts) ≤ most → All (λ text. length text ≤ most) texts
+texts_short : (scripts : List PageScript) (most : ℕ) → length (flat_map element_text scripts) ≤ most → All (λ text. length text ≤ most) (script_texts scripts)
 texts_short [] most h = tt
-texts_short (text ∷ texts) most h =
-    let whole = length-append (element_text text) (flat_map element_text texts) in
-    let opened = length-append (codes "<script>") (text ++ codes "</script>") in
-    let closed = length-append text (codes "</script>") in
-    (omega (arith, h, whole, opened, closed), texts_short texts most (omega (arith, h, whole)))
+texts_short (script ∷ scripts) most h =
+    let whole = length-append (element_text script) (flat_map element_text scripts) in
+    let opened = length-append (codes "<script>") (script.text ++ codes "</script>") in
+    let closed = length-append script.text (codes "</script>") in
+    (omega (arith, h, whole, opened, closed), texts_short scripts most (omega (arith, h, whole)))
 
 -- so the scripts of a page are no longer than the page
-page_short : (bytes : List ℕ) (page : Page) → IsPage bytes page → All (λ text. length text ≤ 65536) page.scripts
+page_short : (bytes : List ℕ) (page : Page) → IsPage bytes page → All (λ text. length text ≤ SMALL_PAGE_LIMIT) (script_texts page.scripts)
 page_short bytes page h =
     let elements = flat_map element_text page.scripts in
     let last = length-append elements (codes "</body></html>") in
@@ -85,14 +93,14 @@ page_short bytes page h =
     let body = length-append (codes "</title></head><body>") (blocks_text page.blocks ++ (elements ++ codes "</body></html>")) in
     let title = length-append page.title (codes "</title></head><body>" ++ (blocks_text page.blocks ++ (elements ++ codes "</body></html>"))) in
     let head = length-append (codes "<html><head><title>") (page.title ++ (codes "</title></head><body>" ++ (blocks_text page.blocks ++ (elements ++ codes "</body></html>")))) in
-    texts_short page.scripts 65536 (omega (arith, h.short, ap length h.whole, last, blocks, body, title, head))
+    texts_short page.scripts SMALL_PAGE_LIMIT (omega (arith, h.short, ap length h.whole, last, blocks, body, title, head))
 
-scripts_short : (scripts : List Userscript) → AreScripts scripts → All (λ text. length text ≤ 65536) (texts_in scripts)
+scripts_short : (scripts : List Userscript) → AreScripts scripts → All (λ text. length text ≤ SMALL_PAGE_LIMIT) (texts_in scripts)
 scripts_short [] h = tt
-scripts_short (script ∷ scripts) h = (omega (arith, h.0.1.short), scripts_short scripts h.1)
+scripts_short (script ∷ scripts) h = (omega (arith, h.0.short), scripts_short scripts h.1)
 
 -- where texts and their spelling hold of each short text, they hold of these
-each : (P : List ℕ → Type 0) → ((text : List ℕ) → length text ≤ 65536 → P text) → (texts : List (List ℕ)) → All (λ text. length text ≤ 65536) texts → All P texts
+each : (P : List ℕ → Type 0) → ((text : List ℕ) → length text ≤ SMALL_PAGE_LIMIT → P text) → (texts : List (List ℕ)) → All (λ text. length text ≤ SMALL_PAGE_LIMIT) texts → All P texts
 each P from [] h = tt
 each P from (text ∷ texts) h = (from text h.0, each P from texts h.1)
 
@@ -113,13 +121,13 @@ pub record SmallLaws : Type 0 where
   pub page : (text : List ℕ) (lines : List Line) → IsPageScript text lines → length text ≤ TEXT_LIMIT → Spells text (body_of PageZone lines)
   pub userscript : (text name : List ℕ) (lines : List Line) → IsUserscript text name lines → Spells text (body_of XrayScript lines)
 
-spelled : SmallLaws → (zone : Zone) (text : List ℕ) (lines : List Line) → length text ≤ 65536 → Reads zone text lines → Spells text (body_of zone lines)
+spelled : SmallLaws → (zone : Zone) (text : List ℕ) (lines : List Line) → length text ≤ SMALL_PAGE_LIMIT → Reads zone text lines → Spells text (body_of zone lines)
 spelled laws PageZone text lines short reads = laws.page text lines reads (omega (arith, short))
 spelled laws XrayScript text lines short (name, reads) = laws.userscript text name lines reads
 spelled laws Host text lines short reads = absurd reads
 spelled laws PlainScript text lines short reads = absurd reads
 
-fits : SmallLaws → (zone : Zone) (text : List ℕ) → length text ≤ 65536 → FitsEntry zone (Script text)
+fits : SmallLaws → (zone : Zone) (text : List ℕ) → length text ≤ SMALL_PAGE_LIMIT → FitsEntry zone (Script text)
 fits laws zone text short = (short, λ lines reads. spelled laws zone text lines short reads)
 
 may_run : (b : Bool) (s t : Setup) → MayRun s.zone s.grants → MayRun t.zone t.grants → MayRun (among b s t).zone (among b s t).grants
@@ -138,12 +146,13 @@ all_solo laws address bytes page scripts marks is_page are_scripts few lawful ge
     let setup = setups_of address i in
     let P : List ℕ → Type 0 = λ text. FitsEntry setup.zone (Script text) in
     let input = input_of page (texts_in scripts) in
-    let pieces = pieces_each P (after_blocks page.blocks) (head_writes page.title ++ block_writes page.blocks) page.scripts (each P (fits laws setup.zone) page.scripts (page_short bytes page is_page)) in
+    let pieces = pieces_each P (after_blocks page.blocks) (head_writes page.title ++ block_writes page.blocks) (script_texts page.scripts) (each P (fits laws setup.zone) (script_texts page.scripts) (page_short bytes page is_page)) in
     let starts = each P (fits laws setup.zone) (texts_in scripts) (scripts_short scripts are_scripts) in
     let entries = turns_enter P input [] (tasks_of input) marks (record { pieces = pieces; starts = starts }) lawful in
-    let pieces_are = pieces_length (after_blocks page.blocks) (head_writes page.title ++ block_writes page.blocks) page.scripts in
+    let pieces_are = pieces_length (after_blocks page.blocks) (head_writes page.title ++ block_writes page.blocks) (script_texts page.scripts) in
+    let texts = length-map page.scripts (λ (script : PageScript). script.text) in
     let shown_few = entries_few i at_start marks in
-    let are_few : entries_in (shows_of (view_of i marks)) ≤ 1000 = omega (arith, shown_few, entries.few, tasks_length input, pieces_are, is_page.few, texts_few scripts USERSCRIPT_LIMIT few) in
+    let are_few : entries_in (shows_of (view_of i marks)) ≤ 1000 = omega (arith, shown_few, entries.few, tasks_length input, pieces_are, texts, is_page.few, texts_few scripts USERSCRIPT_LIMIT few) in
     let fit = shown_fit setup.zone i at_start [] marks (inl refl) genuine entries.texts in
     let small = reaches-solo (small_enters setup) small_beginning LEVELS Fresh (λ m given. Stuck) (view_of i marks) (idle i other).reaches in
     solo-acts (setups_of address) i marks (apart address) genuine (laws.solos setup (shows_of (view_of i marks)) (deeds_of (view_of i marks)) (all_may_run address i) fit are_few small)

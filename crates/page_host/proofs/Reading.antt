@@ -75,6 +75,10 @@ new_name scripts script distinct none =
     let clash : true ≡ false = sym (any_of (bytes_eq script.name) (names_in scripts) script.name among ((bytes_eq-Decides script.name script.name).1 refl)) ∙ none in
     cc))
 
+-- the file at a place is read as well
+pub named_more : (names : List (List ℕ)) (i : ℕ) (file : List ℕ) (read : List (List ℕ)) → i < length names → file ≡ get_or names i file → read ≡ take i names → read ++ file ∷ [] ≡ take (i + 1) names
+named_more names i file read within at is = ap (λ xs. xs ++ file ∷ []) is ∙ ap (λ x. take i names ++ x ∷ []) at ∙ sym (take_more names i file within)
+
 -- all items
 pub take_all_names : (told : Option Files) (names : List (List ℕ)) (i : ℕ) (scripts : List Userscript) → length names ≤ i → IfSome told (λ all. AreHeld all (take i names) scripts) → IfSome told (λ all. AreHeld all names scripts)
 take_all_names None names i scripts whole held = tt

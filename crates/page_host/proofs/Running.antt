@@ -1,20 +1,21 @@
 -- What is refused on the way, and what is right at its end, where the folder tells its files.
-use Rattle.std.proofs.Common.{◌≡◌, ◌≢◌, ◌∙◌, ap, sym, refl, subst, ℕ, ◌≤◌, ◌<◌, ◌+◌, true, false, List, [], ◌∷◌, ◌⊎◌, inl, inr, codes, length, map, Option, Some, None, IfSome, IsErrOf, Err, arith}
+use Rattle.std.proofs.Common.{◌≡◌, ◌≢◌, ◌∙◌, ap, sym, refl, subst, ℕ, ◌≤◌, ◌<◌, ◌+◌, true, false, List, [], ◌∷◌, ◌⊎◌, inl, inr, codes, length, Option, Some, None, IfSome, IsErrOf, Err, arith}
 use Rattle.std.proofs.lemmas.List.{length-map}
 use Rattle.std.specs.List.{list_any}
 use Rattle.std.specs.String.{string_bytes}
-use Rattle.outside.specs.Contents.{Files, content, AreNamesOf}
+use Rattle.outside.specs.Contents.{AreDistinct, Files, content, AreNamesOf}
 use Rattle.door.specs.declared.limits.TheConstants.{USERSCRIPT_LIMIT}
 use Rattle.door.specs.declared.marks.Mark.{Mark}
 use Rattle.small_forms.specs.Pages.{IsPage}
 use Rattle.small_forms.specs.declared.page.Page.{Page}
+use Rattle.small_forms.specs.declared.userscript.ScriptFile.{ScriptFile}
 use Rattle.small_forms.specs.declared.userscript.Userscript.{Userscript}
 use Rattle.page_host.specs.Address.{IsPlainAddress}
 use Rattle.page_host.specs.Faults.{IsOneOf, IsRefusal, page_missing, status_of}
 use Rattle.page_host.specs.Names.{AreScriptsOf, IsScriptNames, is_events, counted}
 use Rattle.page_host.specs.Loaded.{AreChosen, AreChosenOf, IsFolderFault, IsFormed, IsLoaded, IsOutput, IsRefusedAt}
 use Rattle.page_host.specs.Run.{Given, IsRight, IsRightOver}
-use Rattle.page_host.specs.Scripts.{AreHeld, AreRead}
+use Rattle.page_host.specs.Scripts.{AreHeld, AreRead, AreScripts, files_in, names_in, userscripts_in}
 use Rattle.page_host.specs.Steps.{AllWanted, Fits, IsFirstFault, IsRefused, Wants, FewScripts, file_steps, page_steps, steps}
 use Rattle.page_host.specs.Words.{AreRead as AreReadWords, IsRunCommand}
 use Rattle.page_host.specs.declared.faults.HostFault.{HostFault}
@@ -148,14 +149,22 @@ script_fault e (inl is) = subst IsFolderFault (sym is) tt
 script_fault e (inr (inl is)) = subst IsFolderFault (sym is) tt
 script_fault e (inr (inr is)) = subst IsFolderFault (sym is) tt
 
-pub all_loaded : (told second third : Option Files) (loaded : Loaded) → second ≡ told → third ≡ second → IfSome told (λ files. AreChosenOf files (map string_bytes loaded.files.items))
-    → IfSome second (λ files. (bytes : List ℕ) × (content files (codes "page.html") ≡ Some bytes) × IsPage bytes loaded.page) → IfSome third (λ files. AreHeld files (map string_bytes loaded.files.items) loaded.scripts.items)
+-- what is read is that of the files
+pub all_loaded : (told second third : Option Files) (names : List (List ℕ)) (loaded : Loaded) → second ≡ told → third ≡ second → files_in loaded.scripts.items ≡ names → IfSome told (λ files. AreChosenOf files names)
+    → IfSome second (λ files. (bytes : List ℕ) × (content files (codes "page.html") ≡ Some bytes) × IsPage bytes loaded.page) → IfSome third (λ files. AreHeld files names (userscripts_in loaded.scripts.items))
     → IfSome told (λ files. IsLoaded files loaded)
-all_loaded None second third loaded same again chosen paged held = tt
-all_loaded (Some files) second third loaded same again chosen paged held =
+all_loaded None second third names loaded same again named chosen paged held = tt
+all_loaded (Some files) second third names loaded same again named chosen paged held =
     let P : Option Files → Type 0 = λ o. IfSome o (λ files. (bytes : List ℕ) × (content files (codes "page.html") ≡ Some bytes) × IsPage bytes loaded.page) in
-    let Q : Option Files → Type 0 = λ o. IfSome o (λ files. AreHeld files (map string_bytes loaded.files.items) loaded.scripts.items) in
-    record { chosen = chosen; paged = subst P same paged; held = subst Q (again ∙ same) held }
+    let Q : Option Files → Type 0 = λ o. IfSome o (λ files. AreHeld files names (userscripts_in loaded.scripts.items)) in
+    let R : List (List ℕ) → Type 0 = λ l. AreChosenOf files l in
+    let S : List (List ℕ) → Type 0 = λ l. AreHeld files l (userscripts_in loaded.scripts.items) in
+    record { chosen = subst R (sym named) chosen; paged = subst P same paged; held = subst S (sym named) (subst Q (again ∙ same) held) }
+
+-- and it is of the forms that are read
+pub all_formed : (names : List (List ℕ)) (loaded : Loaded) → files_in loaded.scripts.items ≡ names → AreChosen names → (bytes : List ℕ) × IsPage bytes loaded.page
+    → AreScripts (userscripts_in loaded.scripts.items) × AreDistinct (names_in (userscripts_in loaded.scripts.items)) → IsFormed loaded
+all_formed names loaded named chosen paged forms = record { chosen = subst AreChosen (sym named) chosen; paged = paged; scripts_are = forms.0; distinct = forms.1 }
 
 -- ---- the whole run
 
@@ -194,8 +203,8 @@ right_of words files address loaded output is formed told output_is = record {
     address = address;
     bytes = told.paged.0;
     page = loaded.page;
-    names = map string_bytes loaded.files.items;
-    scripts = loaded.scripts.items;
+    names = files_in loaded.scripts.items;
+    scripts = userscripts_in loaded.scripts.items;
     command = is.command;
     plain = is.plain;
     named = told.chosen.named;
@@ -212,14 +221,16 @@ right_of words files address loaded output is formed told output_is = record {
 }
 
 -- the files that would hold what was read
-loaded_in : (loaded : Loaded) (formed : IsFormed loaded) → IsLoaded (the_files formed.paged.0 (map string_bytes loaded.files.items) loaded.scripts.items) loaded
+loaded_in : (loaded : Loaded) (formed : IsFormed loaded) → IsLoaded (the_files formed.paged.0 (files_in loaded.scripts.items) (userscripts_in loaded.scripts.items)) loaded
 loaded_in loaded formed =
-    let names = map string_bytes loaded.files.items in
-    let count : length loaded.scripts.items ≡ length names = formed.count ∙ sym (length-map loaded.files.items string_bytes) in
+    let names = files_in loaded.scripts.items in
+    let scripts = userscripts_in loaded.scripts.items in
+    let count : length scripts ≡ length names =
+    length-map loaded.scripts.items (λ (script : ScriptFile). script.script) ∙ sym (length-map loaded.scripts.items (λ (script : ScriptFile). string_bytes script.file)) in
     record {
-      chosen = record { named = the_names formed.paged.0 names loaded.scripts.items formed.chosen count; eventless = the_eventless formed.paged.0 names loaded.scripts.items formed.chosen };
+      chosen = record { named = the_names formed.paged.0 names scripts formed.chosen count; eventless = the_eventless formed.paged.0 names scripts formed.chosen };
       paged = (formed.paged.0, refl, formed.paged.1);
-      held = the_held formed.paged.0 names loaded.scripts.items formed.chosen count;
+      held = the_held formed.paged.0 names scripts formed.chosen count;
     }
 
 pub run_right : (words : List (List ℕ)) (told : Option Files) (address : List ℕ) (loaded : Loaded) (output : RunOutput) → Addressed words address → IsFormed loaded → IfSome told (λ files. IsLoaded files loaded) → IsOutput address loaded output

@@ -97,8 +97,8 @@ SameNames (s ∷ ss) (t ∷ ts) = (s.name ≡ t.name) × SameNames ss ts
 one_name : OneWay → (s t : Userscript) → Some s.text ≡ Some t.text → IsScript s → IsScript t → s.name ≡ t.name
 one_name law s t e a b =
     let same : s.text ≡ t.text = cc in
-    let P : List ℕ → Type 0 = λ text. IsUserscript text s.name a.0 in
-    (law t.text s.name t.name a.0 b.0 (subst P same a.1) b.1).0
+    let P : List ℕ → Type 0 = λ text. IsUserscript text s.name s.lines in
+    (law t.text s.name t.name s.lines t.lines (subst P same a) b).0
 
 pub same_names : OneWay → (files : Files) (names : List (List ℕ)) (i : ℕ) (scripts all : List Userscript) → AreHeld files (take i names) scripts → AreScripts scripts → AreHeld files names all → AreScripts all → SameNames scripts all
 same_names law files names i [] all held are whole every = tt

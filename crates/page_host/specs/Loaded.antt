@@ -1,7 +1,6 @@
 -- What a run has read and output before it writes; this project's own.
-use Rattle.std.specs.Prelude.{◌≡◌, ◌≤◌, ℕ, IsTrue, List, codes, length, map, Option, Some, None, IfSome}
+use Rattle.std.specs.Prelude.{◌≡◌, ◌≤◌, ℕ, IsTrue, List, codes, length, Option, Some, None, IfSome}
 use Rattle.std.specs.List.{list_all}
-use Rattle.std.specs.String.{string_bytes}
 use Rattle.outside.specs.Contents.{AreDistinct, Files, content}
 use Rattle.door.specs.declared.limits.TheConstants.{USERSCRIPT_LIMIT}
 use Rattle.small_forms.specs.Pages.{IsPage}
@@ -12,7 +11,7 @@ use Rattle.page_host.specs.Names.{AreInOrder, IsScriptNames, is_userscript}
 use Rattle.page_host.specs.Printed.{document_of}
 use Rattle.page_host.specs.Report.{report_of}
 use Rattle.page_host.specs.Run.{AllActsAreSolo, input_of}
-use Rattle.page_host.specs.Scripts.{AreHeld, AreScripts, names_in, texts_in}
+use Rattle.page_host.specs.Scripts.{AreHeld, AreScripts, files_in, names_in, texts_in, userscripts_in}
 use Rattle.page_host.specs.Steps.{Step, IsFirstFault}
 use Rattle.page_host.specs.declared.faults.HostFault.{HostFault}
 use Rattle.page_host.specs.declared.faults.HostFault.TheVariants.{Usage, PageRefused, ReadFault, WriteFault, NoMemory, TooManyScripts, NotYet}
@@ -46,21 +45,20 @@ pub record AreChosenOf (files : Files) (names : List (List ℕ)) : Type 0 where
 
 -- what is read is of the forms that are read
 pub record IsFormed (loaded : Loaded) : Type 0 where
-  pub chosen : AreChosen (map string_bytes loaded.files.items)
+  pub chosen : AreChosen (files_in loaded.scripts.items)
   pub paged : (bytes : List ℕ) × IsPage bytes loaded.page
-  pub count : length loaded.scripts.items ≡ length loaded.files.items
-  pub scripts_are : AreScripts loaded.scripts.items
-  pub distinct : AreDistinct (names_in loaded.scripts.items)
+  pub scripts_are : AreScripts (userscripts_in loaded.scripts.items)
+  pub distinct : AreDistinct (names_in (userscripts_in loaded.scripts.items))
 
 -- what is read is that of these files
 pub record IsLoaded (files : Files) (loaded : Loaded) : Type 0 where
-  pub chosen : AreChosenOf files (map string_bytes loaded.files.items)
+  pub chosen : AreChosenOf files (files_in loaded.scripts.items)
   pub paged : (bytes : List ℕ) × (content files (codes "page.html") ≡ Some bytes) × IsPage bytes loaded.page
-  pub held : AreHeld files (map string_bytes loaded.files.items) loaded.scripts.items
+  pub held : AreHeld files (files_in loaded.scripts.items) (userscripts_in loaded.scripts.items)
 
 -- what is output of it is right
 pub record IsOutput (address : List ℕ) (loaded : Loaded) (output : RunOutput) : Type 0 where
-  pub lawful : IsLawful (input_of loaded.page (texts_in loaded.scripts.items)) output.journal.marks
+  pub lawful : IsLawful (input_of loaded.page (texts_in (userscripts_in loaded.scripts.items))) output.journal.marks
   pub genuine : IsGenuine output.journal.marks
   pub acts : (other : List ℕ) → AllActsAreSolo other output.journal.marks
-  pub reported : output.report.items ≡ report_of address (map string_bytes loaded.files.items) (document_of output.journal.marks) output.journal.marks
+  pub reported : output.report.items ≡ report_of address (files_in loaded.scripts.items) (document_of output.journal.marks) output.journal.marks

@@ -1,8 +1,9 @@
 -- The userscripts of a folder as they are read; this project's own.
 use Rattle.std.specs.Prelude.{◌≡◌, ℕ, List, [], ◌∷◌, map, Some}
+use Rattle.std.specs.String.{string_bytes}
 use Rattle.outside.specs.Contents.{AreDistinct, Files, content}
 use Rattle.small_forms.specs.Scripts.{IsUserscript}
-use Rattle.small_forms.specs.declared.script.Line.{Line}
+use Rattle.small_forms.specs.declared.userscript.ScriptFile.{ScriptFile}
 use Rattle.small_forms.specs.declared.userscript.Userscript.{Userscript}
 
 -- the names that their metadata blocks say
@@ -13,9 +14,17 @@ names_in scripts = map (λ (script : Userscript). script.name) scripts
 abbrev pub texts_in : List Userscript → List (List ℕ)
 texts_in scripts = map (λ (script : Userscript). script.text) scripts
 
--- a userscript of the form that is read
+-- the names of their files
+abbrev pub files_in : List ScriptFile → List (List ℕ)
+files_in scripts = map (λ (script : ScriptFile). string_bytes script.file) scripts
+
+-- the userscripts in these files
+abbrev pub userscripts_in : List ScriptFile → List Userscript
+userscripts_in scripts = map (λ (script : ScriptFile). script.script) scripts
+
+-- a userscript of the form that is read, with the lines that its text is read as
 abbrev pub IsScript : Userscript → Type 0
-IsScript script = (lines : List Line) × IsUserscript script.text script.name lines
+IsScript script = IsUserscript script.text script.name script.lines
 
 -- each of them is one
 abbrev pub AreScripts : List Userscript → Type 0

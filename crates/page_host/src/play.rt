@@ -2,18 +2,18 @@
 
 ghost use Rattle.door.specs.declared.limits.TheConstants.{MARK_LIMIT, USERSCRIPT_LIMIT};
 ghost use Rattle.page_host.specs.Run.{AllActsAreSolo, input_of};
-ghost use Rattle.page_host.specs.Scripts.{AreScripts, texts_in};
+ghost use Rattle.page_host.specs.Scripts.{AreScripts, texts_in, userscripts_in};
 ghost use Rattle.small_forms.specs.Pages.{IsPage};
 ghost use Rattle.solo_model.specs.Lawful.{IsLawful};
 ghost use Rattle.solo_model.specs.Stage.{stage_of};
 ghost use Rattle.solo_model.specs.Truth.{IsGenuine};
-ghost use Rattle.std.specs.Prelude.{◌≡◌, ◌∷◌, ◌++◌, [], ◌≤◌, List, ℕ, length, IfOk, OnOk};
+ghost use Rattle.std.specs.Prelude.{◌≡◌, ◌≤◌, List, ℕ, length, IfOk};
 
-use base_text::{Mem, Text};
+use base_text::Mem;
 use dom_tree::Tree;
 use door::Journal;
 use small_eval::{World, play as play_world};
-use small_forms::{Page, Userscript};
+use small_forms::{Page, ScriptFile};
 use small_meaning::small_solos_are_solos;
 use small_scripts::{page_scripts_spell_their_lines, userscripts_spell_their_lines};
 use std::alloc::Global;
@@ -26,30 +26,12 @@ pub struct Played {
     pub tree: Tree,
 }
 
-fn keep(texts: &mut Vec<Text>, script: &Userscript) -> Mem<()>
-    ensures { OnOk result (texts.new.items ≡ texts.old.items ++ script.now.text ∷ []) }
-{
-    texts.push(script.text.share()?)?;
-    Ok(())
-}
-
-/// The texts of userscripts.
-fn texts_in(alloc: Global, scripts: &[Userscript]) -> Mem<Vec<Text>>
-    ensures { IfOk result (λ texts. texts.items ≡ texts_in scripts.now) }
-{
-    let mut texts = Vec::new(alloc);
-    for script in scripts {
-        keep(&mut texts, script)?;
-    }
-    Ok(texts)
-}
-
 /// Plays the run of a page and its userscripts.
-pub fn play(alloc: Global, page: &Page, scripts: &[Userscript]) -> Mem<Played>
+pub fn play(alloc: Global, page: &Page, scripts: &[ScriptFile]) -> Mem<Played>
     requires page { (bytes : List ℕ) × IsPage bytes page.now }
     requires few { length scripts.now ≤ USERSCRIPT_LIMIT }
-    requires scripts { AreScripts scripts.now }
-    ensures lawful { IfOk result (λ played. IsLawful (input_of page.now (texts_in scripts.now)) played.journal.marks) }
+    requires scripts { AreScripts (userscripts_in scripts.now) }
+    ensures lawful { IfOk result (λ played. IsLawful (input_of page.now (texts_in (userscripts_in scripts.now))) played.journal.marks) }
     ensures genuine { IfOk result (λ played. IsGenuine played.journal.marks) }
     ensures acts { IfOk result (λ played. (address : List ℕ) → AllActsAreSolo address played.journal.marks) }
     ensures limit { IfOk result (λ played. played.journal.limit ≡ MARK_LIMIT) }
@@ -58,7 +40,6 @@ pub fn play(alloc: Global, page: &Page, scripts: &[Userscript]) -> Mem<Played>
     small_solos_are_solos();
     page_scripts_spell_their_lines();
     userscripts_spell_their_lines();
-    let texts = texts_in(alloc, scripts)?;
-    let World { journal, tree, .. } = play_world(alloc, page, texts.as_slice())?;
+    let World { journal, tree, .. } = play_world(alloc, page, scripts)?;
     Ok(Played { journal, tree })
 }

@@ -1,7 +1,8 @@
 //! The bytes of the report.
 
 ghost use Rattle.page_host.specs.Report.{escaped, escaped_byte, fault_text, logged_line, mark_line, outcome_line, report_head, report_of, report_tail, request_line, script_line, stop_name, log_line, turns_in, who_of};
-ghost use Rattle.std.specs.Prelude.{◌≡◌, ◌∷◌, ◌++◌, codes, IfOk, OnOk, map};
+ghost use Rattle.page_host.specs.Scripts.{files_in};
+ghost use Rattle.std.specs.Prelude.{◌≡◌, ◌∷◌, ◌++◌, codes, IfOk, OnOk};
 ghost use Rattle.std.specs.Fmt.{decimal};
 ghost use Rattle.std.specs.List.{flat_map};
 ghost use Rattle.std.specs.Option.{option_copied};
@@ -9,21 +10,22 @@ ghost use Rattle.std.specs.String.{string_bytes};
 
 use base_text::{Mem, Text};
 use door::{Actor, Journal, Mark, Member, Outcome, Request, StopKind, Value, Values};
+use small_forms::ScriptFile;
 use std::alloc::{AllocError, Global};
 
-/// The report of a run at this address, whose userscripts are these files, and whose document is printed so.
+/// The report of a run at this address, of these userscripts, whose document is printed so.
 pub fn report(
     alloc: Global,
     address: &str,
-    files: &[String],
+    scripts: &[ScriptFile],
     document: &[u8],
     journal: &Journal,
 ) -> Mem<Vec<u8>>
-    ensures { IfOk result (λ report. report.items ≡ report_of address.now (map string_bytes files.now) document.now journal.now.marks) }
+    ensures { IfOk result (λ report. report.items ≡ report_of address.now (files_in scripts.now) document.now journal.now.marks) }
 {
     let mut out = Vec::new(alloc);
-    push_head(&mut out, address, files)?;
-    push_log(alloc, &mut out, files, journal)?;
+    push_head(&mut out, address, scripts)?;
+    push_log(alloc, &mut out, scripts, journal)?;
     push_tail(alloc, &mut out, document, turns_in(journal))?;
     Ok(out)
 }
@@ -65,36 +67,36 @@ fn push_script(out: &mut Vec<u8>, file: &str) -> Mem<()>
     push(out, b" started\n")
 }
 
-fn push_scripts(out: &mut Vec<u8>, files: &[String]) -> Mem<()>
-    ensures { OnOk result (out.new.items ≡ out.old.items ++ flat_map script_line (map string_bytes files.now)) }
+fn push_scripts(out: &mut Vec<u8>, scripts: &[ScriptFile]) -> Mem<()>
+    ensures { OnOk result (out.new.items ≡ out.old.items ++ flat_map script_line (files_in scripts.now)) }
 {
-    for file in files {
-        push_script(out, file.as_str())?;
+    for script in scripts {
+        push_script(out, script.file.as_str())?;
     }
     Ok(())
 }
 
 /// The lines up to the log.
-fn push_head(out: &mut Vec<u8>, address: &str, files: &[String]) -> Mem<()>
-    ensures { OnOk result (out.new.items ≡ out.old.items ++ report_head address.now (map string_bytes files.now)) }
+fn push_head(out: &mut Vec<u8>, address: &str, scripts: &[ScriptFile]) -> Mem<()>
+    ensures { OnOk result (out.new.items ≡ out.old.items ++ report_head address.now (files_in scripts.now)) }
 {
     push(out, b"pagehost 1\naddress ")?;
     push(out, address.as_bytes())?;
     push(out, b"\n")?;
-    push_scripts(out, files)?;
+    push_scripts(out, scripts)?;
     Ok(())
 }
 
 /// Who an actor is.
-fn who_of(files: &[String], actor: Actor) -> Option<&str>
-    ensures { option_copied result ≡ who_of (map string_bytes files.now) actor }
+fn who_of(scripts: &[ScriptFile], actor: Actor) -> Option<&str>
+    ensures { option_copied result ≡ who_of (files_in scripts.now) actor }
 {
     match actor.0 {
         0 => None,
         1 => Some("page"),
         number => {
-            let file = files.get(number as usize - 2)?;
-            Some(file.as_str())
+            let script = scripts.get(number as usize - 2)?;
+            Some(script.file.as_str())
         }
     }
 }
@@ -170,24 +172,24 @@ fn push_outcome(alloc: Global, out: &mut Vec<u8>, who: Option<&str>, outcome: &O
 }
 
 /// The line of a mark, where it has one.
-fn push_line(alloc: Global, out: &mut Vec<u8>, files: &[String], mark: &Mark) -> Mem<()>
-    ensures { OnOk result (out.new.items ≡ out.old.items ++ mark_line (map string_bytes files.now) mark.now) }
+fn push_line(alloc: Global, out: &mut Vec<u8>, scripts: &[ScriptFile], mark: &Mark) -> Mem<()>
+    ensures { OnOk result (out.new.items ≡ out.old.items ++ mark_line (files_in scripts.now) mark.now) }
 {
     match mark {
-        Mark::Ask(actor, request, _) => push_request(out, who_of(files, *actor), request),
+        Mark::Ask(actor, request, _) => push_request(out, who_of(scripts, *actor), request),
         Mark::Leave(actor, outcome, _) => {
-            push_outcome(alloc, out, who_of(files, *actor), outcome)
+            push_outcome(alloc, out, who_of(scripts, *actor), outcome)
         }
         _ => Ok(()),
     }
 }
 
 /// The lines of the log.
-fn push_log(alloc: Global, out: &mut Vec<u8>, files: &[String], journal: &Journal) -> Mem<()>
-    ensures { OnOk result (out.new.items ≡ out.old.items ++ flat_map (mark_line (map string_bytes files.now)) journal.now.marks) }
+fn push_log(alloc: Global, out: &mut Vec<u8>, scripts: &[ScriptFile], journal: &Journal) -> Mem<()>
+    ensures { OnOk result (out.new.items ≡ out.old.items ++ flat_map (mark_line (files_in scripts.now)) journal.now.marks) }
 {
     for mark in journal.marks() {
-        push_line(alloc, out, files, mark)?;
+        push_line(alloc, out, scripts, mark)?;
     }
     Ok(())
 }

@@ -26,7 +26,7 @@ use dom_tree::NodeId;
 use door::{DOCUMENT, Journal, USERSCRIPT_LIMIT};
 use outside::Folder;
 use page_text::print;
-use small_forms::{Page, Userscript, page_in};
+use small_forms::{Page, ScriptFile, page_in};
 use std::alloc::Global;
 
 /// What a run has made before it writes: its journal, and the bytes of the report.
@@ -39,10 +39,9 @@ pub struct RunOutput {
 /// What a run reads of a folder.
 #[derive(Drop)]
 struct Loaded {
-    /// The names of the userscripts' files, in byte order.
-    files: Vec<String>,
     page: Page,
-    scripts: Vec<Userscript>,
+    /// The userscripts, in byte order of their files' names.
+    scripts: Vec<ScriptFile>,
 }
 
 /// The steps of a run but the last: it reads the words, loads the folder's files, runs the page and its
@@ -105,11 +104,7 @@ fn load<F: Folder>(alloc: Global, folder: &mut F) -> Result<Loaded, HostFault>
     let files = load_names(folder)?;
     let page = load_page(alloc, folder)?;
     let scripts = scripts_in(alloc, folder, files.as_slice())?;
-    Ok(Loaded {
-        files,
-        page,
-        scripts,
-    })
+    Ok(Loaded { page, scripts })
 }
 
 /// The names of the folder's userscripts, of which there aren't too many, where it has no list of events.
@@ -166,7 +161,7 @@ fn run_and_report(alloc: Global, address: &str, loaded: &Loaded) -> Mem<RunOutpu
     let report = report(
         alloc,
         address,
-        loaded.files.as_slice(),
+        loaded.scripts.as_slice(),
         document.as_slice(),
         &played.journal,
     )?;

@@ -124,20 +124,18 @@ on_left (Ok u) P old new mark e h = subst P (sym e) h
 on_left (Err x) P old new mark e h = tt
 
 -- the same of the worlds along an entry
-pub idle_entry : (setups : Setups) (i : Actor) (zone : Zone) (text : List ℕ) (lines slice : List Line) (old a b : World) (ended : Result (Unit {0}) Exit) (outcome : Outcome) (left : ℕ)
-    → i.0 ≢ 0 → (setups i).zone ≡ zone → Reads zone text lines → slice ≡ lines → NotOutOfMemory ended → outcome ≡ outcome_of (done_of ended)
+pub idle_entry : (setups : Setups) (i : Actor) (zone : Zone) (text : List ℕ) (lines : List Line) (old a b : World) (ended : Result (Unit {0}) Exit) (outcome : Outcome) (left : ℕ)
+    → i.0 ≢ 0 → (setups i).zone ≡ zone → Reads zone text lines → NotOutOfMemory ended → outcome ≡ outcome_of (done_of ended)
     → a.journal ≡ record old.journal { marks = old.journal.marks ++ Enter i (Script text) ∷ [] } → PreservesRest i a b FUEL_LIMIT left
-    → ((s : Setup) (c : Cont) → HasReached s i a.journal.marks (lines_row zone slice c FUEL_LIMIT) → ContinuesWithLine s i b.journal.marks left c ended)
+    → ((s : Setup) (c : Cont) → HasReached s i a.journal.marks (lines_row zone lines c FUEL_LIMIT) → ContinuesWithLine s i b.journal.marks left c ended)
     → AreIdle setups old.journal.marks → AreIdle setups (b.journal.marks ++ Leave i outcome (FUEL_LIMIT - left) ∷ [])
-idle_entry setups i zone text lines slice old a b ended outcome left guest z reads same goes o e k runs all =
+idle_entry setups i zone text lines old a b ended outcome left guest z reads goes o e k runs all =
     let entered : List Mark = old.journal.marks ++ Enter i (Script text) ∷ [] in
     let begun : a.journal.marks ≡ entered = ap (λ (r : Record). r.marks) e in
     let ended_at : b.journal.marks ≡ entered ++ k.asks.0 = ap (λ (r : Record). r.marks) k.asks.1 ∙ ap (λ ms. ms ++ k.asks.0) begun in
     let P : List Mark → Type 0 = λ ms. AreIdle setups (ms ++ Leave i outcome (FUEL_LIMIT - left) ∷ []) in
-    let Q : List Mark → Setup → Cont → Type 0 = λ ms s c. HasReached s i ms (lines_row zone slice c FUEL_LIMIT) in
     let here : (s : Setup) (c : Cont) → HasReached s i entered (lines_row zone lines c FUEL) → ContinuesWithLine s i (entered ++ k.asks.0) left c ended =
     λ s c h. let R : List Mark → Type 0 = λ ms. ContinuesWithLine s i ms left c ended in
-    let S : List Line → Type 0 = λ ls. HasReached s i entered (lines_row zone ls c FUEL) in
-    let T : List Mark → Type 0 = λ ms. HasReached s i ms (lines_row zone slice c FUEL_LIMIT) in
-    subst R ended_at (runs s c (subst T (sym begun) (subst S (sym same) h))) in
+    let T : List Mark → Type 0 = λ ms. HasReached s i ms (lines_row zone lines c FUEL_LIMIT) in
+    subst R ended_at (runs s c (subst T (sym begun) h)) in
     subst P (sym ended_at) (idle_after setups i zone text lines old.journal.marks k.asks.0 ended outcome left guest z reads goes o k.asks.2 here all)

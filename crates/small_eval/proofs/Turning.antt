@@ -1,5 +1,5 @@
 -- How the turns of a run follow one another.
-use Rattle.std.proofs.Common.{◌≡◌, ◌∙◌, ap, sym, refl, subst, ℕ, ◌<◌, ◌≤◌, ◌+◌, Bool, true, false, List, [], ◌∷◌, ◌++◌, arith, length, length-append, append_assoc, slice_index_or, Option, Some, None}
+use Rattle.std.proofs.Common.{◌≡◌, ◌∙◌, ap, sym, refl, subst, ℕ, ◌<◌, ◌≤◌, ◌+◌, Bool, true, false, List, [], ◌∷◌, ◌++◌, arith, length, length-append, map, append_assoc, slice_index_or, Option, Some, None}
 use Prim.Native.Nat.{zero, suc}
 use Rattle.std.specs.Prelude.{slice_get}
 use Rattle.std.proofs.lemmas.List.{append-nil}
@@ -10,7 +10,8 @@ use Rattle.door.specs.declared.marks.Mark.TheVariants.{Turn}
 use Rattle.door.specs.declared.marks.Task.{Task}
 use Rattle.door.specs.declared.marks.Task.TheVariants.{Start, Piece as PieceTask, Ready, Load}
 use Rattle.dom_semantics.specs.Changes.{is_empty}
-use Rattle.small_forms.specs.declared.script.Line.{Line}
+use Rattle.small_forms.specs.declared.page.PageScript.{PageScript}
+use Rattle.small_forms.specs.declared.userscript.ScriptFile.{ScriptFile}
 use Rattle.small_forms.specs.Scripts.{IsPageScript, IsUserscript}
 use Rattle.small_forms.specs.Pages.{ArePageScripts}
 use Rattle.solo_model.specs.Lawful.{AreBuilds, AreTurns, Input, IsScripted, IsTurn, numbered, tasks_of}
@@ -123,31 +124,31 @@ number_next n k [] h = absurd (omega (arith, h))
 number_next n zero (text ∷ texts) h = refl
 number_next n (suc k) (text ∷ texts) h = number_next (after_script n text) k texts (omega (arith, h))
 
--- each text is one that is read
-pub page_script_at : (texts : List (List ℕ)) (k : ℕ) (d : List ℕ) → ArePageScripts texts → k < length texts → (lines : List Line) × IsPageScript (slice_index_or texts k d) lines
+-- each text is read as its lines
+page_script_at : (scripts : List PageScript) (k : ℕ) (d : PageScript) → ArePageScripts scripts → k < length scripts → IsPageScript (slice_index_or scripts k d).text (slice_index_or scripts k d).lines
 page_script_at [] k d h less = absurd (omega (arith, less))
-page_script_at (text ∷ texts) zero d h less = h.0
-page_script_at (text ∷ texts) (suc k) d h less = page_script_at texts k d h.1 (omega (arith, less))
+page_script_at (script ∷ scripts) zero d h less = h.0
+page_script_at (script ∷ scripts) (suc k) d h less = page_script_at scripts k d h.1 (omega (arith, less))
 
-pub userscript_at : (texts : List (List ℕ)) (k : ℕ) (d : List ℕ) → AreUserscripts texts → k < length texts → (name : List ℕ) × (lines : List Line) × IsUserscript (slice_index_or texts k d) name lines
+userscript_at : (files : List ScriptFile) (k : ℕ) (d : ScriptFile) → AreUserscripts files → k < length files → IsUserscript (slice_index_or files k d).script.text (slice_index_or files k d).script.name (slice_index_or files k d).script.lines
 userscript_at [] k d h less = absurd (omega (arith, less))
-userscript_at (text ∷ texts) zero d h less = h.0
-userscript_at (text ∷ texts) (suc k) d h less = userscript_at texts k d h.1 (omega (arith, less))
+userscript_at (file ∷ files) zero d h less = h.0
+userscript_at (file ∷ files) (suc k) d h less = userscript_at files k d h.1 (omega (arith, less))
 
-same_at : (texts : List (List ℕ)) (k : ℕ) (d e : List ℕ) → k < length texts → slice_index_or texts k d ≡ slice_index_or texts k e
-same_at [] k d e less = absurd (omega (arith, less))
-same_at (text ∷ texts) zero d e less = refl
-same_at (text ∷ texts) (suc k) d e less = same_at texts k d e (omega (arith, less))
+text_at : {A : Type 0} (text : A → List ℕ) (xs : List A) (k : ℕ) (d : A) → k < length xs → text (slice_index_or xs k d) ≡ slice_index_or (map text xs) k []
+text_at text [] k d less = absurd (omega (arith, less))
+text_at text (x ∷ xs) zero d less = refl
+text_at text (x ∷ xs) (suc k) d less = text_at text xs k d (omega (arith, less))
 
 -- the text of a number among these
-pub text_is : (items texts : List (List ℕ)) (text : List ℕ) (index n : ℕ) (d : List ℕ) → text ≡ slice_index_or items index d → items ≡ texts → n ≡ index → index < length items → text ≡ slice_index_or texts n []
-text_is items texts text index n d is e f less = is ∙ same_at items index d [] less ∙ ap (λ xs. slice_index_or xs index []) e ∙ ap (λ j. slice_index_or texts j []) (sym f)
+pub text_is : {A : Type 0} (text : A → List ℕ) (items xs : List A) (x : A) (index n : ℕ) (d : A) → x ≡ slice_index_or items index d → items ≡ xs → n ≡ index → index < length items → text x ≡ slice_index_or (map text xs) n []
+text_is text items xs x index n d is e f less = ap text is ∙ text_at text items index d less ∙ ap (λ ys. slice_index_or (map text ys) index []) e ∙ ap (λ j. slice_index_or (map text xs) j []) (sym f)
 
-pub page_script_is : (texts : List (List ℕ)) (text : List ℕ) (k : ℕ) (d : List ℕ) → text ≡ slice_index_or texts k d → ArePageScripts texts → k < length texts → (lines : List Line) × IsPageScript text lines
-page_script_is texts text k d e h less = let P : List ℕ → Type 0 = λ t. (lines : List Line) × IsPageScript t lines in subst P (sym e) (page_script_at texts k d h less)
+pub page_script_is : (scripts : List PageScript) (script : PageScript) (k : ℕ) (d : PageScript) → script ≡ slice_index_or scripts k d → ArePageScripts scripts → k < length scripts → IsPageScript script.text script.lines
+page_script_is scripts script k d e h less = let P : PageScript → Type 0 = λ s. IsPageScript s.text s.lines in subst P (sym e) (page_script_at scripts k d h less)
 
-pub userscript_is : (texts : List (List ℕ)) (text : List ℕ) (k : ℕ) (d : List ℕ) → text ≡ slice_index_or texts k d → AreUserscripts texts → k < length texts → (name : List ℕ) × (lines : List Line) × IsUserscript text name lines
-userscript_is texts text k d e h less = let P : List ℕ → Type 0 = λ t. (name : List ℕ) × (lines : List Line) × IsUserscript t name lines in subst P (sym e) (userscript_at texts k d h less)
+pub userscript_is : (files : List ScriptFile) (file : ScriptFile) (k : ℕ) (d : ScriptFile) → file ≡ slice_index_or files k d → AreUserscripts files → k < length files → IsUserscript file.script.text file.script.name file.script.lines
+userscript_is files file k d e h less = let P : ScriptFile → Type 0 = λ f. IsUserscript f.script.text f.script.name f.script.lines in subst P (sym e) (userscript_at files k d h less)
 
 pub got_at : (texts : List (List ℕ)) (k : ℕ) → k < length texts → slice_get texts k ≡ Some (slice_index_or texts k [])
 got_at [] k h = absurd (omega (arith, h))

@@ -1,12 +1,12 @@
 -- How far a run has come.
-use Rattle.std.specs.Prelude.{◌≡◌, ◌≤◌, ◌+◌, ℕ, Bool, List, [], ◌∷◌, ◌++◌, length, if◌then◌else◌}
+use Rattle.std.specs.Prelude.{◌≡◌, ◌≤◌, ◌+◌, ℕ, Bool, List, [], ◌∷◌, ◌++◌, length, map, if◌then◌else◌}
 use Rattle.door.specs.declared.requests.Request.{Request}
 use Rattle.door.specs.declared.marks.Mark.{Mark}
 use Rattle.door.specs.declared.marks.Mark.TheVariants.{Turn}
 use Rattle.door.specs.declared.marks.Task.{Task}
 use Rattle.door.specs.declared.marks.Task.TheVariants.{Piece as PieceTask}
 use Rattle.dom_semantics.specs.Changes.{is_empty}
-use Rattle.small_forms.specs.declared.script.Line.{Line}
+use Rattle.small_forms.specs.declared.userscript.ScriptFile.{ScriptFile}
 use Rattle.small_forms.specs.Scripts.{IsUserscript}
 use Rattle.solo_model.specs.Lawful.{AreBuilds, AreTurns, Input}
 use Rattle.door.specs.declared.limits.TheConstants.{MARK_LIMIT}
@@ -23,10 +23,14 @@ pub record IsBuilding (input : Input) (tasks : List Task) (n : ℕ) (requests : 
   pub built : AreBuilds (done ++ Turn (PieceTask n) ∷ []) requests builds
   pub whole : marks ≡ (done ++ Turn (PieceTask n) ∷ []) ++ builds
 
--- each of these texts is a userscript that is read
-abbrev pub AreUserscripts : List (List ℕ) → Type 0
+-- the text of each of these userscripts is read as its name and its lines
+abbrev pub AreUserscripts : List ScriptFile → Type 0
 AreUserscripts [] = Unit {0}
-AreUserscripts (text ∷ texts) = ((name : List ℕ) × (lines : List Line) × IsUserscript text name lines) × AreUserscripts texts
+AreUserscripts (file ∷ files) = IsUserscript file.script.text file.script.name file.script.lines × AreUserscripts files
+
+-- the texts of these userscripts
+abbrev pub file_texts : List ScriptFile → List (List ℕ)
+file_texts files = map (λ (file : ScriptFile). file.script.text) files
 
 -- at most so many marks, and just so many nodes of the host, were added
 pub record HasGone (marks nodes : ℕ) (old new : World) : Type 0 where

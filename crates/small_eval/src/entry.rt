@@ -2,7 +2,6 @@
 
 ghost use Rattle.std.specs.Prelude.{◌≡◌, ◌≢◌, ◌≤◌, ◌<◌, ◌+◌, ◌^◌, ◌++◌, codes, List, IfOk, OnOk, length};
 ghost use Rattle.door.specs.declared.marks.Mark.{Mark as AnyMark};
-ghost use Rattle.small_forms.specs.declared.script.Line.{Line as AnyLine};
 ghost use Rattle.solo_model.specs.Closed.{Setups};
 ghost use Rattle.small_meaning.specs.Errors.{error_text};
 ghost use Rattle.solo_model.specs.Lawful.{IsEntry};
@@ -19,23 +18,8 @@ use crate::exit::Exit;
 use crate::world::{World, note};
 use base_text::{Mem, NoMemory, Text, TextFault};
 use door::{Actor, Entry, ErrorKind, FUEL_LIMIT, Mark, Outcome, Zone};
-use small_forms::{Lines, page_lines, text_of, userscript_lines};
+use small_forms::{Line, text_of};
 use std::alloc::Global;
-
-/// The lines that a script's text is read as, by its zone.
-fn lines_of(alloc: Global, zone: Zone, text: &Text) -> Mem<Lines>
-    requires { (lines : List AnyLine) × Reads zone text.now lines }
-    ensures { IfOk result (λ lines. Reads zone text.now lines) }
-{
-    let found = match zone {
-        Zone::Page => page_lines(alloc, text)?,
-        Zone::Host | Zone::XrayScript | Zone::PlainScript => userscript_lines(alloc, text)?,
-    };
-    match found {
-        Some(lines) => Ok(lines),
-        None => unreachable!(),
-    }
-}
 
 /// An error as a text (ECMAScript, Error.prototype.toString).
 fn error_text(alloc: Global, reason: &ErrorKind) -> Mem<Text>
@@ -81,12 +65,19 @@ fn outcome(alloc: Global, ended: &Result<(), Exit>) -> Mem<Outcome>
     }
 }
 
-/// A script is entered with its text, runs its lines, and is left.
-pub fn enter(alloc: Global, world: &mut World, actor: Actor, zone: Zone, text: &Text) -> Mem<()>
+/// A script is entered with its text, runs the lines that the text is read as, and is left.
+pub fn enter(
+    alloc: Global,
+    world: &mut World,
+    actor: Actor,
+    zone: Zone,
+    text: &Text,
+    script: &[Line],
+) -> Mem<()>
     requires sound { IsSound world.old }
     requires headed { IsHeaded world.old.tree }
     requires guest { actor.0 ≢ 0 }
-    requires reads { (lines : List AnyLine) × Reads zone text.now lines }
+    requires reads { Reads zone text.now script.now }
     requires room { length world.old.journal.marks + ENTRY_MARKS ≤ world.old.journal.limit }
     requires limit { world.old.journal.limit < 2 ^ 30 }
     ensures entry { OnOk result ((marks : List AnyMark) × Adds world.old.journal world.new.journal marks × IsEntry actor text.now marks × (length marks ≤ ENTRY_MARKS)) }
@@ -95,10 +86,9 @@ pub fn enter(alloc: Global, world: &mut World, actor: Actor, zone: Zone, text: &
     ensures own { OnOk result (world.new.own ≡ world.old.own) }
     ensures idle { (setups : Setups) → (setups actor).zone ≡ zone → AreIdle setups world.old.journal.marks → OnOk result (AreIdle setups world.new.journal.marks) }
 {
-    let script = lines_of(alloc, zone, text)?;
     note(world, Mark::Enter(actor, Entry::Script(text.share()?)))?;
     let mut fuel = FUEL_LIMIT;
-    let ended = lines(alloc, world, actor, zone, &mut fuel, script.as_slice());
+    let ended = lines(alloc, world, actor, zone, &mut fuel, script);
     let outcome = outcome(alloc, &ended)?;
     note(world, Mark::Leave(actor, outcome, FUEL_LIMIT - fuel))
 }

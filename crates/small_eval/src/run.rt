@@ -9,7 +9,7 @@ ghost use Rattle.door.specs.declared.marks.Mark.{Mark as AnyMark};
 ghost use Rattle.door.specs.declared.marks.Task.{Task as AnyTask};
 ghost use Rattle.door.specs.declared.marks.Task.TheVariants.{Start as StartTask, Piece as PieceTask};
 ghost use Rattle.door.specs.declared.zones.Zone.TheVariants.{Page as PageZone, XrayScript};
-ghost use Rattle.small_forms.specs.declared.script.Line.{Line};
+ghost use Rattle.small_forms.specs.declared.limits.TheConstants.{PAGE_SCRIPT_LIMIT};
 ghost use Rattle.small_forms.specs.Pages.{ArePageScripts};
 ghost use Rattle.small_forms.specs.Scripts.{IsPageScript, IsUserscript};
 ghost use Rattle.solo_model.specs.Closed.{Setups};
@@ -19,36 +19,43 @@ ghost use Rattle.small_eval.specs.Builds.{HasRoom};
 ghost use Rattle.small_eval.specs.Heads.{IsHeaded};
 ghost use Rattle.small_eval.specs.Idle.{AreIdle};
 ghost use Rattle.small_eval.specs.Pieces.{pieces_of, script_writes};
-ghost use Rattle.small_eval.specs.Turns.{AreUserscripts, HasGone, IsBuilding, IsGoing, script_nodes};
+ghost use Rattle.small_eval.specs.Turns.{AreUserscripts, HasGone, IsBuilding, IsGoing, file_texts, script_nodes};
 ghost use Rattle.small_eval.specs.Worlds.{IsSound};
-ghost use Rattle.small_eval.specs.Bounds.{LOAD_MARKS, PAGE_MARKS, PAGE_NODES, PAGE_SCRIPTS, SCRIPT_MARKS, START_MARKS};
+ghost use Rattle.small_eval.specs.Bounds.{LOAD_MARKS, PAGE_MARKS, PAGE_NODES, SCRIPT_MARKS, START_MARKS};
 ghost use Rattle.door.specs.declared.limits.TheConstants.{MARK_LIMIT, USERSCRIPT_LIMIT};
 
 use crate::entry::enter;
 use crate::event::host_event;
 use crate::page::{build_blocks, build_head, build_script};
 use crate::world::{World, turn};
-use base_text::{Mem, Text};
+use base_text::Mem;
 use door::{Actor, DOCUMENT, PAGE, Task, Thing, WINDOW, Zone};
-use small_forms::Page;
+use small_forms::{Page, PageScript, ScriptFile, Userscript};
 use std::alloc::Global;
 
 /// The end of a piece: its script element is built, its script runs, and the next piece begins.
-fn end_piece(alloc: Global, world: &mut World, n: u32, text: &Text) -> Mem<()>
+fn end_piece(alloc: Global, world: &mut World, n: u32, script: &PageScript) -> Mem<()>
     requires room { HasRoom SCRIPT_MARKS 2 world.old }
     requires headed { IsHeaded world.old.tree }
     requires body { 5 < length world.old.own.items }
     requires few { n < 100 }
-    requires reads { (lines : List Line) × IsPageScript text.now lines }
+    requires reads { IsPageScript script.now.text script.now.lines }
     ensures lawful { (input : Input) (tasks : List AnyTask) (begun : List AnyRequest) → IsBuilding input tasks n begun world.old.journal.marks
-        → slice_get input.pieces n ≡ Some (record { writes = begun ++ script_writes (length world.old.own.items) text.now; script = Some text.now })
+        → slice_get input.pieces n ≡ Some (record { writes = begun ++ script_writes (length world.old.own.items) script.now.text; script = Some script.now.text })
         → OnOk result (IsBuilding input (tasks ++ PieceTask n ∷ []) (n + 1) [] world.new.journal.marks) }
-    ensures gone { OnOk result (HasGone SCRIPT_MARKS (script_nodes text.now) world.old world.new) }
+    ensures gone { OnOk result (HasGone SCRIPT_MARKS (script_nodes script.now.text) world.old world.new) }
     ensures headed { OnOk result (IsHeaded world.new.tree) }
     ensures idle { (setups : Setups) → (setups the_page).zone ≡ PageZone → AreIdle setups world.old.journal.marks → OnOk result (AreIdle setups world.new.journal.marks) }
 {
-    build_script(alloc, world, text)?;
-    enter(alloc, world, PAGE, Zone::Page, text)?;
+    build_script(alloc, world, &script.text)?;
+    enter(
+        alloc,
+        world,
+        PAGE,
+        Zone::Page,
+        &script.text,
+        script.lines.as_slice(),
+    )?;
     turn(world, Task::Piece(n + 1))?;
     Ok(())
 }
@@ -58,7 +65,7 @@ fn play_pieces(alloc: Global, world: &mut World, page: &Page) -> Mem<()>
     requires sound { IsSound world.old }
     requires first { world.old.journal ≡ record { marks = []; limit = MARK_LIMIT } }
     requires own { world.old.own.items ≡ 0 ∷ [] }
-    requires scripts { ArePageScripts page.now.scripts × (length page.now.scripts ≤ PAGE_SCRIPTS) }
+    requires scripts { ArePageScripts page.now.scripts × (length page.now.scripts ≤ PAGE_SCRIPT_LIMIT) }
     ensures lawful { (input : Input) → input.pieces ≡ pieces_of page.now → OnOk result (AreTurns input [] (numbered PieceTask 0 input.pieces) world.new.journal.marks) }
     ensures going { OnOk result (IsGoing PAGE_MARKS PAGE_NODES world.new) }
     ensures idle { (setups : Setups) → (setups the_page).zone ≡ PageZone → AreIdle setups world.old.journal.marks → OnOk result (AreIdle setups world.new.journal.marks) }
@@ -67,8 +74,8 @@ fn play_pieces(alloc: Global, world: &mut World, page: &Page) -> Mem<()>
     build_head(alloc, world, &page.title)?;
     build_blocks(alloc, world, page.blocks)?;
     let mut n = 0;
-    for text in page.scripts.as_slice() {
-        end_piece(alloc, world, n, text)?;
+    for script in page.scripts.as_slice() {
+        end_piece(alloc, world, n, script)?;
         n += 1;
     }
     Ok(())
@@ -98,44 +105,51 @@ fn play_event(
 }
 
 /// The turn of a userscript.
-fn play_start(alloc: Global, world: &mut World, n: u32, text: &Text) -> Mem<()>
+fn play_start(alloc: Global, world: &mut World, n: u32, script: &Userscript) -> Mem<()>
     requires room { HasRoom SCRIPT_MARKS 0 world.old }
     requires headed { IsHeaded world.old.tree }
     requires few { n < 100 }
-    requires reads { (name : List ℕ) × (lines : List Line) × IsUserscript text.now name lines }
-    ensures lawful { (input : Input) (tasks : List AnyTask) → slice_get input.starts n ≡ Some text.now → AreTurns input [] tasks world.old.journal.marks
+    requires reads { IsUserscript script.now.text script.now.name script.now.lines }
+    ensures lawful { (input : Input) (tasks : List AnyTask) → slice_get input.starts n ≡ Some script.now.text → AreTurns input [] tasks world.old.journal.marks
         → OnOk result (AreTurns input [] (tasks ++ StartTask n ∷ []) world.new.journal.marks) }
     ensures gone { OnOk result (HasGone SCRIPT_MARKS 0 world.old world.new) }
     ensures headed { OnOk result (IsHeaded world.new.tree) }
     ensures idle { (setups : Setups) → (setups (userscript n)).zone ≡ XrayScript → AreIdle setups world.old.journal.marks → OnOk result (AreIdle setups world.new.journal.marks) }
 {
     turn(world, Task::Start(n))?;
-    enter(alloc, world, Actor(n + 2), Zone::XrayScript, text)?;
+    enter(
+        alloc,
+        world,
+        Actor(n + 2),
+        Zone::XrayScript,
+        &script.text,
+        script.lines.as_slice(),
+    )?;
     Ok(())
 }
 
 /// The turns of the userscripts.
-fn play_starts(alloc: Global, world: &mut World, scripts: &[Text]) -> Mem<()>
+fn play_starts(alloc: Global, world: &mut World, scripts: &[ScriptFile]) -> Mem<()>
     requires going { IsGoing START_MARKS PAGE_NODES world.old }
     requires scripts { AreUserscripts scripts.now × (length scripts.now ≤ USERSCRIPT_LIMIT) }
-    ensures lawful { (input : Input) (tasks : List AnyTask) → input.starts ≡ scripts.now → AreTurns input [] tasks world.old.journal.marks
+    ensures lawful { (input : Input) (tasks : List AnyTask) → input.starts ≡ file_texts scripts.now → AreTurns input [] tasks world.old.journal.marks
         → OnOk result (AreTurns input [] (tasks ++ numbered StartTask 0 input.starts) world.new.journal.marks) }
     ensures going { OnOk result (IsGoing LOAD_MARKS PAGE_NODES world.new) }
     ensures idle { (setups : Setups) → ((n : ℕ) → (setups (userscript n)).zone ≡ XrayScript) → AreIdle setups world.old.journal.marks → OnOk result (AreIdle setups world.new.journal.marks) }
 {
     let mut n = 0;
-    for text in scripts {
-        play_start(alloc, world, n, text)?;
+    for file in scripts {
+        play_start(alloc, world, n, &file.script)?;
         n += 1;
     }
     Ok(())
 }
 
 /// A run of a page with these userscripts, in the order of their start.
-pub fn play(alloc: Global, page: &Page, scripts: &[Text]) -> Mem<World>
-    requires page { ArePageScripts page.now.scripts × (length page.now.scripts ≤ PAGE_SCRIPTS) }
+pub fn play(alloc: Global, page: &Page, scripts: &[ScriptFile]) -> Mem<World>
+    requires page { ArePageScripts page.now.scripts × (length page.now.scripts ≤ PAGE_SCRIPT_LIMIT) }
     requires scripts { AreUserscripts scripts.now × (length scripts.now ≤ USERSCRIPT_LIMIT) }
-    ensures lawful { IfOk result (λ world. IsLawful (record { pieces = pieces_of page.now; starts = scripts.now }) world.journal.marks) }
+    ensures lawful { IfOk result (λ world. IsLawful (record { pieces = pieces_of page.now; starts = file_texts scripts.now }) world.journal.marks) }
     ensures sound { IfOk result (λ world. IsSound world) }
     ensures limit { IfOk result (λ world. world.journal.limit ≡ MARK_LIMIT) }
     ensures idle { (setups : Setups) → (setups the_page).zone ≡ PageZone → ((n : ℕ) → (setups (userscript n)).zone ≡ XrayScript) → IfOk result (λ world. AreIdle setups world.journal.marks) }

@@ -8,13 +8,16 @@ use Rattle.std.specs.Char.{is_ascii}
 use Rattle.small_forms.specs.Bytes.{are_in, is_in, stops, last, more}
 use Rattle.small_forms.specs.declared.bytes.Class.{Class}
 use Rattle.small_forms.specs.declared.bytes.Class.TheVariants.{Alphanumeric, AlphanumericOrBlank, Blank, RawText}
+use Rattle.small_forms.specs.declared.limits.TheConstants.{PAGE_SCRIPT_LIMIT}
 use Rattle.small_forms.specs.declared.page.Page.{Page}
+use Rattle.small_forms.specs.declared.page.PageScript.{PageScript}
 use Rattle.small_forms.specs.declared.script.Line.{Line}
-use Rattle.small_forms.specs.Pages.{ArePageScripts, IsPage, IsTitle, blocks_text, element_text}
+use Rattle.small_forms.specs.Pages.{ArePageScripts, IsPage, IsTitle, blocks_text, element_text, script_texts}
 use Rattle.small_forms.specs.Readers.{are_ascii}
 use Rattle.small_forms.specs.Scripts.{IsPageScript}
 use Rattle.small_forms.proofs.Forms.{same_front}
 use Rattle.small_forms.proofs.AsciiTexts.{inside_ascii}
+use Rattle.small_forms.proofs.PageLines.{same_lines}
 use Rattle.small_forms.proofs.RawTexts.{page_script_ascii, page_script_raw}
 use Rattle.small_forms.proofs.Runs.{both_true}
 
@@ -58,23 +61,23 @@ seconds : (xs ys : List ℕ) → xs ≡ ys → get_or xs 1 0 ≡ get_or ys 1 0
 seconds xs ys e = ap (λ l. get_or l 1 0) e
 
 -- neither a script element nor the end of a page begins as the paragraph does
-no_blocks : (scripts : List (List ℕ)) (rest : List ℕ) → blocks_text true ++ rest ≡ flat_map element_text scripts ++ page_end → ⊥
+no_blocks : (scripts : List PageScript) (rest : List ℕ) → blocks_text true ++ rest ≡ flat_map element_text scripts ++ page_end → ⊥
 no_blocks [] rest e = let same : 112 ≡ 47 = seconds (blocks_text true ++ rest) page_end e in omega (arith, same)
-no_blocks (text ∷ scripts) rest e = let same : 112 ≡ 115 = seconds (blocks_text true ++ rest) (flat_map element_text (text ∷ scripts) ++ page_end) e in omega (arith, same)
+no_blocks (script ∷ scripts) rest e = let same : 112 ≡ 115 = seconds (blocks_text true ++ rest) (flat_map element_text (script ∷ scripts) ++ page_end) e in omega (arith, same)
 
 -- what was read before the script elements
-pub blocks_front : (body : List ℕ) (found : Bool) (rest : List ℕ) (blocks : Bool) (scripts : List (List ℕ)) → body ≡ blocks_text found ++ rest → (found ≡ false → (r : List ℕ) → body ≡ blocks_text true ++ r → ⊥)
+pub blocks_front : (body : List ℕ) (found : Bool) (rest : List ℕ) (blocks : Bool) (scripts : List PageScript) → body ≡ blocks_text found ++ rest → (found ≡ false → (r : List ℕ) → body ≡ blocks_text true ++ r → ⊥)
     → body ≡ blocks_text blocks ++ (flat_map element_text scripts ++ page_end) → (found ≡ blocks) × (rest ≡ flat_map element_text scripts ++ page_end)
 blocks_front body true rest true scripts e only h = (refl, append_cancel_left (blocks_text true) rest (flat_map element_text scripts ++ page_end) (sym e ∙ h))
 blocks_front body true rest false scripts e only h = absurd (no_blocks scripts rest (sym e ∙ h))
 blocks_front body false rest true scripts e only h = absurd (only refl (flat_map element_text scripts ++ page_end) h)
 blocks_front body false rest false scripts e only h = (refl, sym e ∙ h)
 
-pub element_seam : (text rest : List ℕ) → element_text text ++ rest ≡ codes "<script>" ++ (text ++ (codes "</script>" ++ rest))
-element_seam text rest = append_assoc (codes "<script>") (text ++ codes "</script>") rest ∙ ap (λ xs. codes "<script>" ++ xs) (append_assoc text (codes "</script>") rest)
+pub element_seam : (script : PageScript) (rest : List ℕ) → element_text script ++ rest ≡ codes "<script>" ++ (script.text ++ (codes "</script>" ++ rest))
+element_seam script rest = append_assoc (codes "<script>") (script.text ++ codes "</script>") rest ∙ ap (λ xs. codes "<script>" ++ xs) (append_assoc script.text (codes "</script>") rest)
 
-elements_seam : (text : List ℕ) (scripts : List (List ℕ)) (rest : List ℕ) → flat_map element_text (text ∷ scripts) ++ rest ≡ codes "<script>" ++ (text ++ (codes "</script>" ++ (flat_map element_text scripts ++ rest)))
-elements_seam text scripts rest = append_assoc (element_text text) (flat_map element_text scripts) rest ∙ element_seam text (flat_map element_text scripts ++ rest)
+elements_seam : (script : PageScript) (scripts : List PageScript) (rest : List ℕ) → flat_map element_text (script ∷ scripts) ++ rest ≡ codes "<script>" ++ (script.text ++ (codes "</script>" ++ (flat_map element_text scripts ++ rest)))
+elements_seam script scripts rest = append_assoc (element_text script) (flat_map element_text scripts) rest ∙ element_seam script (flat_map element_text scripts ++ rest)
 
 -- a page doesn't end where a script element begins
 pub not_end : (inside : List ℕ) → page_end ≡ codes "<script>" ++ inside → ⊥
@@ -92,34 +95,34 @@ same_script text other x y lines others is so e =
 
 -- script elements are left, of which so many were read, and then the page ends
 pub record AreLeft (read : ℕ) (rest : List ℕ) : Type 0 where
-  pub scripts : List (List ℕ)
+  pub scripts : List PageScript
   pub are : ArePageScripts scripts
-  pub few : length scripts + read ≤ 4
+  pub few : length scripts + read ≤ PAGE_SCRIPT_LIMIT
   pub text : rest ≡ flat_map element_text scripts ++ page_end
 
 pub record IsElement (read : ℕ) (inside : List ℕ) : Type 0 where
   pub text : List ℕ
   pub lines : List Line
-  pub scripts : List (List ℕ)
+  pub scripts : List PageScript
   pub is : IsPageScript text lines
   pub are : ArePageScripts scripts
-  pub few : length scripts + read < 4
+  pub few : length scripts + read < PAGE_SCRIPT_LIMIT
   pub whole : inside ≡ text ++ (codes "</script>" ++ (flat_map element_text scripts ++ page_end))
 
 pub left-element : (read : ℕ) (rest inside : List ℕ) → rest ≡ codes "<script>" ++ inside → AreLeft read rest → IsElement read inside
 left-element read rest inside e left = of_scripts left.scripts left.are left.few left.text
   where
-    of_scripts : (scripts : List (List ℕ)) → ArePageScripts scripts → length scripts + read ≤ 4 → rest ≡ flat_map element_text scripts ++ page_end → IsElement read inside
+    of_scripts : (scripts : List PageScript) → ArePageScripts scripts → length scripts + read ≤ PAGE_SCRIPT_LIMIT → rest ≡ flat_map element_text scripts ++ page_end → IsElement read inside
     of_scripts [] are few t = absurd (not_end inside (sym t ∙ e))
-    of_scripts (text ∷ scripts) are few t =
+    of_scripts (script ∷ scripts) are few t =
         record {
-          text = text;
-          lines = are.0.0;
+          text = script.text;
+          lines = script.lines;
           scripts = scripts;
-          is = are.0.1;
+          is = are.0;
           are = are.1;
           few = omega (arith, few);
-          whole = append_cancel_left (codes "<script>") inside (text ++ (codes "</script>" ++ (flat_map element_text scripts ++ page_end))) (sym e ∙ t ∙ elements_seam text scripts page_end);
+          whole = append_cancel_left (codes "<script>") inside (script.text ++ (codes "</script>" ++ (flat_map element_text scripts ++ page_end))) (sym e ∙ t ∙ elements_seam script scripts page_end);
         }
 
 pub left-more : (read : ℕ) (inside text rest : List ℕ) (lines : List Line) → inside ≡ text ++ (codes "</script>" ++ rest) → IsPageScript text lines → IsElement read inside → AreLeft (1 + read) rest
@@ -130,41 +133,51 @@ left-more read inside text rest lines e is element =
 pub left-end : (read : ℕ) (rest : List ℕ) → ((inside : List ℕ) → rest ≡ codes "<script>" ++ inside → ⊥) → AreLeft read rest → rest ≡ page_end
 left-end read rest none left = of_scripts left.scripts left.text
   where
-    of_scripts : (scripts : List (List ℕ)) → rest ≡ flat_map element_text scripts ++ page_end → rest ≡ page_end
+    of_scripts : (scripts : List PageScript) → rest ≡ flat_map element_text scripts ++ page_end → rest ≡ page_end
     of_scripts [] t = t
-    of_scripts (text ∷ scripts) t = absurd (none (text ++ (codes "</script>" ++ (flat_map element_text scripts ++ page_end))) (t ∙ elements_seam text scripts page_end))
+    of_scripts (script ∷ scripts) t = absurd (none (script.text ++ (codes "</script>" ++ (flat_map element_text scripts ++ page_end))) (t ∙ elements_seam script scripts page_end))
 
-elements-append : (scripts : List (List ℕ)) (text : List ℕ) → flat_map element_text (scripts ++ text ∷ []) ≡ flat_map element_text scripts ++ element_text text
-elements-append [] text = append-nil (element_text text)
-elements-append (s ∷ scripts) text = ap (λ more. element_text s ++ more) (elements-append scripts text) ∙ sym (append_assoc (element_text s) (flat_map element_text scripts) (element_text text))
+elements-append : (scripts : List PageScript) (script : PageScript) → flat_map element_text (scripts ++ script ∷ []) ≡ flat_map element_text scripts ++ element_text script
+elements-append [] script = append-nil (element_text script)
+elements-append (s ∷ scripts) script = ap (λ more. element_text s ++ more) (elements-append scripts script) ∙ sym (append_assoc (element_text s) (flat_map element_text scripts) (element_text script))
 
 -- a script element more was read
-pub elements_read : (bytes : List ℕ) (scripts : List (List ℕ)) (rest inside text left : List ℕ) → bytes ≡ flat_map element_text scripts ++ rest → rest ≡ codes "<script>" ++ inside → inside ≡ text ++ (codes "</script>" ++ left)
-    → bytes ≡ flat_map element_text (scripts ++ text ∷ []) ++ left
-elements_read bytes scripts rest inside text left e f g =
+pub elements_read : (bytes : List ℕ) (scripts : List PageScript) (rest inside : List ℕ) (script : PageScript) (left : List ℕ) → bytes ≡ flat_map element_text scripts ++ rest → rest ≡ codes "<script>" ++ inside → inside ≡ script.text ++ (codes "</script>" ++ left)
+    → bytes ≡ flat_map element_text (scripts ++ script ∷ []) ++ left
+elements_read bytes scripts rest inside script left e f g =
     e
-    ∙ ap (λ xs. flat_map element_text scripts ++ xs) (f ∙ ap (λ xs. codes "<script>" ++ xs) g ∙ sym (element_seam text left))
-    ∙ sym (append_assoc (flat_map element_text scripts) (element_text text) left)
-    ∙ ap (λ xs. xs ++ left) (sym (elements-append scripts text))
+    ∙ ap (λ xs. flat_map element_text scripts ++ xs) (f ∙ ap (λ xs. codes "<script>" ++ xs) g ∙ sym (element_seam script left))
+    ∙ sym (append_assoc (flat_map element_text scripts) (element_text script) left)
+    ∙ ap (λ xs. xs ++ left) (sym (elements-append scripts script))
 
-pub are-more : (scripts : List (List ℕ)) (text : List ℕ) (lines : List Line) → ArePageScripts scripts → IsPageScript text lines → ArePageScripts (scripts ++ text ∷ [])
-are-more [] text lines h is = ((lines, is), tt)
-are-more (s ∷ scripts) text lines h is = (h.0, are-more scripts text lines h.1 is)
+pub are-more : (scripts : List PageScript) (script : PageScript) → ArePageScripts scripts → IsPageScript script.text script.lines → ArePageScripts (scripts ++ script ∷ [])
+are-more [] script h is = (is, tt)
+are-more (s ∷ scripts) script h is = (h.0, are-more scripts script h.1 is)
 
-pub scripts_ascii : (scripts : List (List ℕ)) → ArePageScripts scripts → IsTrue (are_ascii scripts)
+pub scripts_ascii : (scripts : List PageScript) → ArePageScripts scripts → IsTrue (are_ascii (script_texts scripts))
 scripts_ascii [] are = refl
-scripts_ascii (text ∷ scripts) are = rw (page_script_ascii text are.0.0 are.0.1) (scripts_ascii scripts are.1)
+scripts_ascii (script ∷ scripts) are = rw (page_script_ascii script.text script.lines are.0) (scripts_ascii scripts are.1)
 
-same_scripts : (a b : List (List ℕ)) → ArePageScripts a → ArePageScripts b → flat_map element_text a ++ page_end ≡ flat_map element_text b ++ page_end → a ≡ b
+scripts_equal : (s t : PageScript) → s.text ≡ t.text → s.lines ≡ t.lines → s ≡ t
+scripts_equal s t e f = ap (λ (p : List ℕ × List Line). record { text = p.0; lines = p.1 }) (both e f)
+  where
+    both : s.text ≡ t.text → s.lines ≡ t.lines → ◌≡◌ {A = List ℕ × List Line} (s.text, s.lines) (t.text, t.lines)
+    both e f = rw (e, f) refl
+
+-- the text of a script element determines the element
+same_element : (s t : PageScript) → s.text ≡ t.text → IsPageScript s.text s.lines → IsPageScript t.text t.lines → s ≡ t
+same_element s t e is so = scripts_equal s t e (same_lines s.lines t.lines is.adds so.adds (sym is.whole ∙ e ∙ so.whole))
+
+same_scripts : (a b : List PageScript) → ArePageScripts a → ArePageScripts b → flat_map element_text a ++ page_end ≡ flat_map element_text b ++ page_end → a ≡ b
 same_scripts [] [] p q e = refl
-same_scripts [] (text ∷ b) p q e = absurd (not_end (text ++ (codes "</script>" ++ (flat_map element_text b ++ page_end))) (e ∙ elements_seam text b page_end))
-same_scripts (text ∷ a) [] p q e = absurd (not_end (text ++ (codes "</script>" ++ (flat_map element_text a ++ page_end))) (sym e ∙ elements_seam text a page_end))
+same_scripts [] (t ∷ b) p q e = absurd (not_end (t.text ++ (codes "</script>" ++ (flat_map element_text b ++ page_end))) (e ∙ elements_seam t b page_end))
+same_scripts (s ∷ a) [] p q e = absurd (not_end (s.text ++ (codes "</script>" ++ (flat_map element_text a ++ page_end))) (sym e ∙ elements_seam s a page_end))
 same_scripts (s ∷ a) (t ∷ b) p q e =
-    let inside = append_cancel_left (codes "<script>") (s ++ (codes "</script>" ++ (flat_map element_text a ++ page_end))) (t ++ (codes "</script>" ++ (flat_map element_text b ++ page_end))) (sym (elements_seam s a page_end) ∙ e ∙ elements_seam t b page_end) in
-    let first = same_script s t (flat_map element_text a ++ page_end) (flat_map element_text b ++ page_end) p.0.0 q.0.0 p.0.1 q.0.1 inside in
-    ap (λ x. x ∷ a) first.0 ∙ ap (λ xs. t ∷ xs) (same_scripts a b p.1 q.1 first.1)
+    let inside = append_cancel_left (codes "<script>") (s.text ++ (codes "</script>" ++ (flat_map element_text a ++ page_end))) (t.text ++ (codes "</script>" ++ (flat_map element_text b ++ page_end))) (sym (elements_seam s a page_end) ∙ e ∙ elements_seam t b page_end) in
+    let first = same_script s.text t.text (flat_map element_text a ++ page_end) (flat_map element_text b ++ page_end) s.lines t.lines p.0 q.0 inside in
+    ap (λ x. x ∷ a) (same_element s t first.0 p.0 q.0) ∙ ap (λ xs. t ∷ xs) (same_scripts a b p.1 q.1 first.1)
 
-same_blocks : (a b : Bool) (scripts others : List (List ℕ)) → blocks_text a ++ (flat_map element_text scripts ++ page_end) ≡ blocks_text b ++ (flat_map element_text others ++ page_end)
+same_blocks : (a b : Bool) (scripts others : List PageScript) → blocks_text a ++ (flat_map element_text scripts ++ page_end) ≡ blocks_text b ++ (flat_map element_text others ++ page_end)
     → (a ≡ b) × (flat_map element_text scripts ++ page_end ≡ flat_map element_text others ++ page_end)
 same_blocks true true scripts others e = (refl, append_cancel_left (blocks_text true) (flat_map element_text scripts ++ page_end) (flat_map element_text others ++ page_end) e)
 same_blocks true false scripts others e = absurd (no_blocks others (flat_map element_text scripts ++ page_end) e)
@@ -172,9 +185,9 @@ same_blocks false true scripts others e = absurd (no_blocks scripts (flat_map el
 same_blocks false false scripts others e = (refl, e)
 
 pages_equal : (a b : Page) → a.title ≡ b.title → a.blocks ≡ b.blocks → a.scripts ≡ b.scripts → a ≡ b
-pages_equal a b e f g = ap (λ (p : List ℕ × (Bool × List (List ℕ))). record { title = p.0; blocks = p.1.0; scripts = p.1.1 }) (all e f g)
+pages_equal a b e f g = ap (λ (p : List ℕ × (Bool × List PageScript)). record { title = p.0; blocks = p.1.0; scripts = p.1.1 }) (all e f g)
   where
-    all : a.title ≡ b.title → a.blocks ≡ b.blocks → a.scripts ≡ b.scripts → ◌≡◌ {A = List ℕ × (Bool × List (List ℕ))} (a.title, (a.blocks, a.scripts)) (b.title, (b.blocks, b.scripts))
+    all : a.title ≡ b.title → a.blocks ≡ b.blocks → a.scripts ≡ b.scripts → ◌≡◌ {A = List ℕ × (Bool × List PageScript)} (a.title, (a.blocks, a.scripts)) (b.title, (b.blocks, b.scripts))
     all e f g = rw (e, f, g) refl
 
 -- the bytes of a page determine the page
@@ -199,10 +212,10 @@ title_rest bytes title body page titled e is =
 both_ascii : (xs ys : List ℕ) → IsTrue (list_all is_ascii xs) → IsTrue (list_all is_ascii ys) → IsTrue (list_all is_ascii (xs ++ ys))
 both_ascii xs ys p q = list_all-append is_ascii xs ys ∙ rw (p, q) refl
 
-elements_ascii : (scripts : List (List ℕ)) → ArePageScripts scripts → IsTrue (list_all is_ascii (flat_map element_text scripts))
+elements_ascii : (scripts : List PageScript) → ArePageScripts scripts → IsTrue (list_all is_ascii (flat_map element_text scripts))
 elements_ascii [] are = refl
-elements_ascii (text ∷ scripts) are =
-    both_ascii (element_text text) (flat_map element_text scripts) (both_ascii text (codes "</script>") (page_script_ascii text are.0.0 are.0.1) refl) (elements_ascii scripts are.1)
+elements_ascii (script ∷ scripts) are =
+    both_ascii (element_text script) (flat_map element_text scripts) (both_ascii script.text (codes "</script>") (page_script_ascii script.text script.lines are.0) refl) (elements_ascii scripts are.1)
 
 blocks_ascii : (blocks : Bool) → IsTrue (list_all is_ascii (blocks_text blocks))
 blocks_ascii true = refl

@@ -16,7 +16,7 @@ use Rattle.small_forms.specs.declared.script.Line.{Line}
 use Rattle.small_forms.specs.declared.script.Line.TheVariants.{Log, SetTitle}
 use Rattle.small_forms.specs.Readers.{IsLogger}
 use Rattle.small_forms.specs.Scripts.{AreLines, AreParts, IsPageScript, IsPart, IsSum, IsUserscript, added_text, block_end, block_start, line_text, page_line, page_script_text, part_text, sum_of, sum_text, userscript_line}
-use Rattle.small_forms.proofs.AsciiTexts.{ascii-IsAscii, ascii_text, inside_ascii}
+use Rattle.small_forms.proofs.AsciiTexts.{ascii-IsAscii, inside_ascii}
 use Rattle.small_forms.proofs.PartFronts.{digits_of}
 use Rattle.small_forms.proofs.Runs.{both_true}
 
@@ -88,18 +88,3 @@ page_script_ascii text lines is = inside_ascii RawText text (page_script_raw tex
 -- the bytes of a text of ASCII
 pub ascii_bytes : (text : List ℕ) → IsTrue (list_all is_ascii text) → encode_utf8_all text ≡ text
 ascii_bytes text h = encodes-IsAscii text (ascii-IsAscii text h)
-
--- the text whose bytes are a userscript
-pub userscript_of_bytes : (text name : List ℕ) (lines : List Line) → IsUserscript (encode_utf8_all text) name lines → IsUserscript text name lines
-userscript_of_bytes text name lines is =
-    subst (λ t. IsUserscript t name lines) (sym (ascii_text text (encode_utf8_all text) refl (userscript_ascii (encode_utf8_all text) name lines is))) is
-
-pub userscript_to_bytes : (text name : List ℕ) (lines : List Line) → IsUserscript text name lines → IsUserscript (encode_utf8_all text) name lines
-userscript_to_bytes text name lines is = subst (λ t. IsUserscript t name lines) (sym (ascii_bytes text (userscript_ascii text name lines is))) is
-
-pub page_script_of_bytes : (text : List ℕ) (lines : List Line) → IsPageScript (encode_utf8_all text) lines → IsPageScript text lines
-page_script_of_bytes text lines is =
-    subst (λ t. IsPageScript t lines) (sym (ascii_text text (encode_utf8_all text) refl (page_script_ascii (encode_utf8_all text) lines is))) is
-
-pub page_script_to_bytes : (text : List ℕ) (lines : List Line) → IsPageScript text lines → IsPageScript (encode_utf8_all text) lines
-page_script_to_bytes text lines is = subst (λ t. IsPageScript t lines) (sym (ascii_bytes text (page_script_ascii text lines is))) is

@@ -4,6 +4,7 @@ use Rattle.std.proofs.lemmas.List.{append-nil, append_cancel_left}
 use Rattle.std.proofs.lemmas.Bool.Decides.{nat_tests}
 use Rattle.std.specs.List.{flat_map}
 use Rattle.small_forms.specs.declared.bytes.Class.TheVariants.{Digit}
+use Rattle.small_forms.specs.declared.limits.TheConstants.{ADDED_LIMIT}
 use Rattle.small_forms.specs.declared.script.Part.{Part}
 use Rattle.small_forms.specs.declared.script.Part.TheVariants.{Title, Number, Quoted}
 use Rattle.small_forms.specs.declared.script.Sum.{Sum}
@@ -71,7 +72,7 @@ pub record AreLeft (read : ℕ) (rest : List ℕ) : Type 0 where
   pub more : List Part
   pub end : List ℕ
   pub are : AreParts more
-  pub few : length more + read ≤ 7
+  pub few : length more + read ≤ ADDED_LIMIT
   pub ends : IsTrue (ends_sum end)
   pub text : rest ≡ flat_map added_text more ++ end
 
@@ -89,14 +90,14 @@ pub record IsAdded (read : ℕ) (added : List ℕ) : Type 0 where
   pub end : List ℕ
   pub is : IsPart part
   pub are : AreParts more
-  pub few : length more + read < 7
+  pub few : length more + read < ADDED_LIMIT
   pub ends : IsTrue (ends_sum end)
   pub text : added ≡ part_text part ++ (flat_map added_text more ++ end)
 
 pub left-added : (read : ℕ) (rest added : List ℕ) → rest ≡ codes " + " ++ added → AreLeft read rest → IsAdded read added
 left-added read rest added e left = added_of left.more left.are left.few left.text
   where
-    added_of : (more : List Part) → AreParts more → length more + read ≤ 7 → rest ≡ flat_map added_text more ++ left.end → IsAdded read added
+    added_of : (more : List Part) → AreParts more → length more + read ≤ ADDED_LIMIT → rest ≡ flat_map added_text more ++ left.end → IsAdded read added
     added_of [] are few t =
         let P : List ℕ → Type 0 = λ xs. IsTrue (ends_sum xs) in
         absurd (not_end added (subst P (sym t ∙ e) left.ends))

@@ -2,6 +2,7 @@
 use Rattle.std.specs.Prelude.{◌≡◌, ◌≤◌, ℕ, IsTrue, List, [], ◌∷◌, ◌++◌, length, codes}
 use Rattle.std.specs.List.{flat_map}
 use Rattle.std.specs.Fmt.{decimal}
+use Rattle.small_forms.specs.declared.limits.TheConstants.{ADDED_LIMIT, SCRIPT_LIMIT}
 use Rattle.small_forms.specs.declared.script.Part.{Part}
 use Rattle.small_forms.specs.declared.script.Part.TheVariants.{Title, Number, Quoted}
 use Rattle.small_forms.specs.declared.script.Sum.{Sum}
@@ -35,18 +36,18 @@ added_text part = codes " + " ++ part_text part
 abbrev pub sum_text : Sum → List ℕ
 sum_text sum = part_text sum.first ++ flat_map added_text sum.more
 
--- one to eight parts
+-- one part, and no more of them after it than may be added
 pub record IsSum (sum : Sum) : Type 0 where
   pub first : IsPart sum.first
   pub more : AreParts sum.more
-  pub few : length sum.more ≤ 7
+  pub few : length sum.more ≤ ADDED_LIMIT
 
 -- what the line of a script adds up
 abbrev pub sum_of : Line → Sum
 sum_of (Log sum) = sum
 sum_of (SetTitle sum) = sum
 
--- each line adds up one to eight parts
+-- each line adds up a sum
 abbrev pub AreLines : List Line → Type 0
 AreLines [] = Unit {0}
 AreLines (line ∷ lines) = IsSum (sum_of line) × AreLines lines
@@ -72,12 +73,12 @@ userscript_line line = line_text (codes "GM_log") line ++ 10 ∷ []
 abbrev pub userscript_text : List ℕ → List Line → List ℕ
 userscript_text name lines = block_start ++ (name ++ (block_end ++ flat_map userscript_line lines))
 
--- the text of a userscript of this name and these lines, of at most 1,024 bytes, all of them ASCII
+-- the text of a userscript of this name and these lines, no longer than a userscript may be; all its bytes are ASCII
 pub record IsUserscript (text name : List ℕ) (lines : List Line) : Type 0 where
   pub named : IsRun Alphanumeric name
   pub adds : AreLines lines
   pub whole : text ≡ userscript_text name lines
-  pub short : length text ≤ 1024
+  pub short : length text ≤ SCRIPT_LIMIT
 
 -- a line of the page's script (Console Standard, log)
 abbrev pub page_line : Line → List ℕ

@@ -1,9 +1,11 @@
 //! The form of page that is read until pages are read by the whole page grammar.
 
-ghost use Rattle.small_forms.specs.Pages.{ArePageScripts, IsPage, IsTitle, blocks_text, element_text};
+ghost use Rattle.small_forms.specs.Pages.{ArePageScripts, IsPage, IsTitle, blocks_text, element_text, script_texts};
 ghost use Rattle.small_forms.specs.Readers.{are_ascii};
 ghost use Rattle.small_forms.specs.Scripts.{IsPageScript};
+ghost use Rattle.small_forms.specs.declared.limits.TheConstants.{PAGE_SCRIPT_LIMIT, SMALL_PAGE_LIMIT};
 ghost use Rattle.small_forms.specs.declared.page.Page.{Page as OnePage};
+ghost use Rattle.small_forms.specs.declared.page.PageScript.{PageScript as OneScript};
 ghost use Rattle.small_forms.specs.declared.script.Line.{Line};
 ghost use Rattle.std.specs.Prelude.{◌≡◌, ◌≢◌, ◌≤◌, ◌++◌, List, ℕ, codes, false, length, IfNone, IfOk, IfSome, IsTrue, true};
 ghost use Rattle.std.specs.List.{flat_map, list_all};
@@ -11,17 +13,23 @@ ghost use Rattle.std.specs.Char.{is_ascii};
 
 use crate::ascii::text_of;
 use crate::bytes::{Class, after, are_runs, front};
+use crate::limits::{PAGE_SCRIPT_LIMIT, SMALL_PAGE_LIMIT};
 use crate::lines::page_lines_in;
 use crate::script::Lines;
 use base_text::{Mem, Text};
-use door::Texts;
 use std::alloc::Global;
 
-/// The most bytes of a page.
-const PAGE_LIMIT: usize = 65_536;
+/// A script element of a page.
+#[derive(Debug, Drop)]
+pub struct PageScript {
+    /// The text in it.
+    pub text: Text,
+    /// The lines that the text is read as.
+    pub lines: Lines,
+}
 
-/// The most script elements of a page.
-const MOST_SCRIPTS: usize = 4;
+/// Script elements in order.
+pub type PageScripts = door::List<PageScript>;
 
 /// A page of the form that is read.
 #[derive(Debug, Drop)]
@@ -30,17 +38,17 @@ pub struct Page {
     pub title: Text,
     /// Whether its body begins with the paragraph `p` and the division `d`.
     pub blocks: bool,
-    /// The texts of its script elements.
-    pub scripts: Texts,
+    /// Its script elements.
+    pub scripts: PageScripts,
 }
 
 /// The page of a file's bytes. `None` exactly where they aren't of the form that is read yet.
 pub fn page_in(alloc: Global, bytes: &[u8]) -> Mem<Option<Page>>
     ensures some { IfOk result (λ found. IfSome found (λ page. IsPage bytes.now page)) }
     ensures none { IfOk result (λ found. IfNone found ((page : OnePage) → IsPage bytes.now page → ⊥)) }
-    ensures ascii { IfOk result (λ found. IfSome found (λ page. IsTrue (list_all is_ascii page.title) × IsTrue (are_ascii page.scripts))) }
+    ensures ascii { IfOk result (λ found. IfSome found (λ page. IsTrue (list_all is_ascii page.title) × IsTrue (are_ascii (script_texts page.scripts)))) }
 {
-    if bytes.len() > PAGE_LIMIT {
+    if bytes.len() > SMALL_PAGE_LIMIT {
         return Ok(None);
     }
     let Some((title, body)) = title_in(bytes) else {
@@ -56,17 +64,6 @@ pub fn page_in(alloc: Global, bytes: &[u8]) -> Mem<Option<Page>>
         blocks,
         scripts,
     }))
-}
-
-/// The lines of the text of a script element. `None` exactly where it isn't of the form that is read yet.
-pub fn page_lines(alloc: Global, text: &Text) -> Mem<Option<Lines>>
-    ensures some { IfOk result (λ found. IfSome found (λ lines. IsPageScript text.now lines)) }
-    ensures none { IfOk result (λ found. IfNone found ((lines : List Line) → IsPageScript text.now lines → ⊥)) }
-{
-    let Some(lines) = page_lines_in(alloc, text.as_str().as_bytes())? else {
-        return Ok(None);
-    };
-    Ok(Some(lines))
 }
 
 /// The title, and what follows the start of the body.
@@ -99,22 +96,22 @@ fn blocks_in(body: &[u8]) -> (bool, &[u8])
     }
 }
 
-/// The texts of the script elements with which a page ends.
-fn scripts_in(alloc: Global, bytes: &[u8]) -> Mem<Option<Texts>>
-    requires { length bytes.now ≤ PAGE_LIMIT }
-    ensures some { IfOk result (λ found. IfSome found (λ scripts. (bytes.now ≡ flat_map element_text scripts ++ codes "</body></html>") × ArePageScripts scripts × (length scripts ≤ MOST_SCRIPTS))) }
-    ensures none { IfOk result (λ found. IfNone found ((scripts : List (List ℕ)) → ArePageScripts scripts → length scripts ≤ MOST_SCRIPTS → bytes.now ≢ flat_map element_text scripts ++ codes "</body></html>")) }
+/// The script elements with which a page ends.
+fn scripts_in(alloc: Global, bytes: &[u8]) -> Mem<Option<PageScripts>>
+    requires { length bytes.now ≤ SMALL_PAGE_LIMIT }
+    ensures some { IfOk result (λ found. IfSome found (λ scripts. (bytes.now ≡ flat_map element_text scripts ++ codes "</body></html>") × ArePageScripts scripts × (length scripts ≤ PAGE_SCRIPT_LIMIT))) }
+    ensures none { IfOk result (λ found. IfNone found ((scripts : List OneScript) → ArePageScripts scripts → length scripts ≤ PAGE_SCRIPT_LIMIT → bytes.now ≢ flat_map element_text scripts ++ codes "</body></html>")) }
 {
-    let mut scripts = Texts::new(alloc);
+    let mut scripts = PageScripts::new(alloc);
     let mut rest = bytes;
     while let Some(inside) = after(rest, b"<script>") {
-        if scripts.len() == MOST_SCRIPTS {
+        if scripts.len() == PAGE_SCRIPT_LIMIT {
             return Ok(None);
         }
-        let Some((text, left)) = script_in(alloc, inside)? else {
+        let Some((script, left)) = script_in(alloc, inside)? else {
             return Ok(None);
         };
-        scripts.push(text)?;
+        scripts.push(script)?;
         rest = left;
     }
     if rest == b"</body></html>".as_slice() {
@@ -124,21 +121,21 @@ fn scripts_in(alloc: Global, bytes: &[u8]) -> Mem<Option<Texts>>
     }
 }
 
-/// The text inside a script element, and what follows the element.
-fn script_in(alloc: Global, inside: &[u8]) -> Mem<Option<(Text, &[u8])>>
-    requires { length inside.now ≤ PAGE_LIMIT }
-    ensures some { IfOk result (λ found. IfSome found (λ p. (inside.now ≡ p.0 ++ (codes "</script>" ++ p.1.now)) × ((lines : List Line) × IsPageScript p.0 lines))) }
+/// The script element of what is inside it, and what follows the element.
+fn script_in(alloc: Global, inside: &[u8]) -> Mem<Option<(PageScript, &[u8])>>
+    requires { length inside.now ≤ SMALL_PAGE_LIMIT }
+    ensures some { IfOk result (λ found. IfSome found (λ p. (inside.now ≡ p.0.text ++ (codes "</script>" ++ p.1.now)) × IsPageScript p.0.text p.0.lines)) }
     ensures none { IfOk result (λ found. IfNone found ((text rest : List ℕ) (lines : List Line) → IsPageScript text lines → inside.now ≢ text ++ (codes "</script>" ++ rest))) }
 {
     let (script, end) = front(inside, Class::RawText);
     let Some(left) = after(end, b"</script>") else {
         return Ok(None);
     };
-    let Some(_) = page_lines_in(alloc, script)? else {
+    let Some(lines) = page_lines_in(alloc, script)? else {
         return Ok(None);
     };
     let text = text_of(alloc, script)?;
-    Ok(Some((text, left)))
+    Ok(Some((PageScript { text, lines }, left)))
 }
 
 /// A law: the text of a script element determines its lines.
@@ -161,5 +158,5 @@ pub fn page_scripts_are_ascii()
 pub fn pages_are_ascii()
     ensures bytes { (bytes : List ℕ) (page : OnePage) → IsPage bytes page → IsTrue (list_all is_ascii bytes) }
     ensures title { (bytes : List ℕ) (page : OnePage) → IsPage bytes page → IsTrue (list_all is_ascii page.title) }
-    ensures scripts { (bytes : List ℕ) (page : OnePage) → IsPage bytes page → IsTrue (are_ascii page.scripts) }
+    ensures scripts { (bytes : List ℕ) (page : OnePage) → IsPage bytes page → IsTrue (are_ascii (script_texts page.scripts)) }
 {}

@@ -12,12 +12,10 @@ ghost use Rattle.std.specs.Fmt.{decimal};
 
 use crate::ascii::source_of;
 use crate::bytes::{Class, after, front, number_in};
+use crate::limits::ADDED_LIMIT;
 use crate::script::{Part, Parts, Sum};
 use base_text::Mem;
 use std::alloc::Global;
-
-/// The most parts that are added to the first.
-const MOST_ADDED: usize = 7;
 
 /// The sum at the front, and what follows it.
 pub fn sum_in(alloc: Global, bytes: &[u8]) -> Mem<Option<(Sum, &[u8])>>
@@ -30,7 +28,7 @@ pub fn sum_in(alloc: Global, bytes: &[u8]) -> Mem<Option<(Sum, &[u8])>>
     };
     let mut more = Parts::new(alloc);
     while let Some(added) = after(rest, b" + ") {
-        if more.len() == MOST_ADDED {
+        if more.len() == ADDED_LIMIT {
             return Ok(None);
         }
         let Some((part, left)) = part_in(alloc, added)? else {

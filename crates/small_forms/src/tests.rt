@@ -1,7 +1,6 @@
 //! What no clause says: that each call succeeds with ample memory, on forms just inside and just outside.
 
-use crate::{Line, Lines, Page, page_in, page_lines, userscript_in, userscript_lines};
-use base_text::Text;
+use crate::{Line, Lines, Page, page_in, userscript_in};
 use std::alloc::{AllocError, Global};
 use std::test::Fail;
 
@@ -9,7 +8,7 @@ const BLOCK_END: &str = "\n// @grant GM_log\n// ==/UserScript==\n";
 
 const EIGHT: &str = "1 + 2 + 3 + 4 + 5 + 6 + 7 + 8";
 
-/// What stands for two readers that tell a text differently.
+/// What stands for a userscript of another name or text than was read.
 const UNLIKE: (usize, usize) = (usize::MAX, 0);
 
 fn joined(alloc: Global, parts: &[&str]) -> Result<Vec<u8>, AllocError> {
@@ -33,7 +32,7 @@ fn shape(lines: &Lines) -> (usize, usize) {
     (lines.len(), parts)
 }
 
-/// The shape of the userscript of this name and body, which both readers tell alike.
+/// The shape of the userscript of this name and body.
 fn userscript<'x>(
     alloc: Global,
     name: &'x str,
@@ -43,13 +42,11 @@ fn userscript<'x>(
         alloc,
         &["// ==UserScript==\n// @name ", name, BLOCK_END, body],
     )?;
-    let text = Text::source(alloc, str::from_utf8(&bytes)?)?;
-    let lines = userscript_lines(alloc, &text)?.map(|lines| shape(&lines));
     let Some(script) = userscript_in(alloc, &bytes)? else {
-        return Ok(lines.map(|_| UNLIKE));
+        return Ok(None);
     };
-    if script.text == text && script.name.as_str() == name {
-        Ok(lines.or(Some(UNLIKE)))
+    if script.text.as_str().as_bytes() == bytes.as_slice() && script.name.as_str() == name {
+        Ok(Some(shape(&script.lines)))
     } else {
         Ok(Some(UNLIKE))
     }
@@ -106,6 +103,14 @@ fn page_of(alloc: Global, title: &str, body: &[&str]) -> Result<Option<Page>, Fa
     Ok(page_in(alloc, &bytes)?)
 }
 
+/// The shape of the only script element of a page, where it has this text.
+fn element_shape(page: &Page, text: &str) -> Option<(usize, usize)> {
+    match page.scripts.as_slice() {
+        [script] if script.text.as_str() == text => Some(shape(&script.lines)),
+        _ => None,
+    }
+}
+
 #[test]
 fn page_scripts_are_told_from_others(rt: HostRuntime) -> Result<(), Fail> {
     let alloc = rt.alloc();
@@ -125,13 +130,10 @@ fn page_scripts_are_told_from_others(rt: HostRuntime) -> Result<(), Fail> {
         ("console.log(00);", None),
         ("GM_log(1);", None),
     ] {
-        let text = Text::of(alloc, script)?;
-        let lines = page_lines(alloc, &text)?.map(|lines| shape(&lines));
-        assert_eq!(rt; lines, told, "{script}");
         let page = page_of(alloc, "Hi", &["<script>", script, "</script>"])?;
         assert_eq!(rt; page.is_some(), told.is_some(), "{script}");
         if let Some(page) = page {
-            assert!(rt; page.scripts.as_slice() == [text].as_slice());
+            assert_eq!(rt; element_shape(&page, script), told, "{script}");
         }
     }
     Ok(())

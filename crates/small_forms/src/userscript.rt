@@ -10,13 +10,11 @@ ghost use Rattle.std.specs.Char.{is_ascii};
 
 use crate::ascii::{source_of, text_of};
 use crate::bytes::{Class, after, front};
+use crate::limits::SCRIPT_LIMIT;
 use crate::lines::userscript_lines_in;
 use crate::script::Lines;
 use base_text::{Mem, Text};
 use std::alloc::Global;
-
-/// The most bytes of a userscript.
-const SCRIPT_LIMIT: usize = 1024;
 
 /// A userscript of the form that is read.
 #[derive(Debug, Drop)]
@@ -25,31 +23,29 @@ pub struct Userscript {
     pub name: Text,
     /// The whole text of its file.
     pub text: Text,
+    /// The lines that the text is read as.
+    pub lines: Lines,
+}
+
+/// A userscript with the name of its file.
+#[derive(Debug, Drop)]
+pub struct ScriptFile {
+    pub file: String,
+    pub script: Userscript,
 }
 
 /// The userscript of a file's bytes. `None` exactly where they aren't of the form that is read yet.
 pub fn userscript_in(alloc: Global, bytes: &[u8]) -> Mem<Option<Userscript>>
-    ensures some { IfOk result (λ found. IfSome found (λ script. (script.text ≡ bytes.now) × ((lines : List Line) × IsUserscript bytes.now script.name lines))) }
+    ensures some { IfOk result (λ found. IfSome found (λ script. (script.text ≡ bytes.now) × IsUserscript bytes.now script.name script.lines)) }
     ensures none { IfOk result (λ found. IfNone found ((name : List ℕ) (lines : List Line) → IsUserscript bytes.now name lines → ⊥)) }
     ensures ascii { IfOk result (λ found. IfSome found (λ script. IsTrue (list_all is_ascii script.name) × IsTrue (list_all is_ascii script.text))) }
 {
-    let Some((name, _)) = read(alloc, bytes)? else {
+    let Some((name, lines)) = read(alloc, bytes)? else {
         return Ok(None);
     };
     let name = text_of(alloc, name)?;
     let text = source_of(alloc, bytes)?;
-    Ok(Some(Userscript { name, text }))
-}
-
-/// The lines of the text of a userscript. `None` exactly where it isn't of the form that is read yet.
-pub fn userscript_lines(alloc: Global, text: &Text) -> Mem<Option<Lines>>
-    ensures some { IfOk result (λ found. IfSome found (λ lines. (name : List ℕ) × IsUserscript text.now name lines)) }
-    ensures none { IfOk result (λ found. IfNone found ((name : List ℕ) (lines : List Line) → IsUserscript text.now name lines → ⊥)) }
-{
-    let Some((_, lines)) = read(alloc, text.as_str().as_bytes())? else {
-        return Ok(None);
-    };
-    Ok(Some(lines))
+    Ok(Some(Userscript { name, text, lines }))
 }
 
 /// The name and the lines of a userscript.

@@ -9,6 +9,7 @@ use Rattle.std.proofs.lemmas.Str.{length-encode, len_utf8_bounds}
 use Rattle.base_text.specs.Scalars.{utf8_len}
 use Rattle.door.specs.declared.zones.Zone.{Zone}
 use Rattle.door.specs.declared.zones.Zone.TheVariants.{Host, Page, XrayScript, PlainScript}
+use Rattle.small_forms.specs.declared.limits.TheConstants.{SMALL_PAGE_LIMIT}
 use Rattle.small_forms.specs.declared.script.Part.{Part}
 use Rattle.small_forms.specs.declared.script.Part.TheVariants.{Title, Number, Quoted}
 use Rattle.small_forms.specs.declared.script.Sum.{Sum}
@@ -23,7 +24,7 @@ four_bytes : (t : List ℕ) → utf8_len t ≤ 4 * length t
 four_bytes [] = omega arith
 four_bytes (c ∷ cs) = omega (arith, four_bytes cs, length-append (encode c) (encode_utf8_all cs), length-encode c, (len_utf8_bounds c).1)
 
-pub short_text : (t : List ℕ) → length t ≤ 65536 → IsText t
+pub short_text : (t : List ℕ) → length t ≤ SMALL_PAGE_LIMIT → IsText t
 short_text t h = omega (arith, four_bytes t)
 
 pub number_text : (n : ℕ) → n < 10000 → IsText (decimal n)
@@ -51,24 +52,24 @@ abbrev pub AreSoundLines : List Line → Type 0
 AreSoundLines [] = Unit {0}
 AreSoundLines (line ∷ lines) = IsSoundSum (sum_of line) × AreSoundLines lines
 
-sound_part : (part : Part) → IsPart part → length (part_text part) ≤ 65536 → IsSound part
+sound_part : (part : Part) → IsPart part → length (part_text part) ≤ SMALL_PAGE_LIMIT → IsSound part
 sound_part Title h short = tt
 sound_part (Number n) h short = h
 sound_part (Quoted text) h short = short_text text (omega (arith, length-append text (34 ∷ [])))
 
-sound_parts : (parts : List Part) → AreParts parts → length (flat_map added_text parts) ≤ 65536 → AreSound parts
+sound_parts : (parts : List Part) → AreParts parts → length (flat_map added_text parts) ≤ SMALL_PAGE_LIMIT → AreSound parts
 sound_parts [] h short = tt
 sound_parts (part ∷ parts) h short =
     let all = length-append (added_text part) (flat_map added_text parts) in
     let one = length-append (codes " + ") (part_text part) in
     (sound_part part h.0 (omega arith), sound_parts parts h.1 (omega arith))
 
-sound_sum : (sum : Sum) → IsSum sum → length (sum_text sum) ≤ 65536 → IsSoundSum sum
+sound_sum : (sum : Sum) → IsSum sum → length (sum_text sum) ≤ SMALL_PAGE_LIMIT → IsSoundSum sum
 sound_sum sum h short =
     let all = length-append (part_text sum.first) (flat_map added_text sum.more) in
     record { first = sound_part sum.first h.first (omega arith); more = sound_parts sum.more h.more (omega arith); few = h.few }
 
-sound_line : (logs : List ℕ) (line : Line) → IsSum (sum_of line) → length (line_text logs line) ≤ 65536 → IsSoundSum (sum_of line)
+sound_line : (logs : List ℕ) (line : Line) → IsSum (sum_of line) → length (line_text logs line) ≤ SMALL_PAGE_LIMIT → IsSoundSum (sum_of line)
 sound_line logs (Log sum) h short =
     let all = length-append logs (40 ∷ (sum_text sum ++ codes ");")) in
     let rest = length-append (sum_text sum) (codes ");") in
@@ -78,14 +79,14 @@ sound_line logs (SetTitle sum) h short =
     let rest = length-append (sum_text sum) (codes ";") in
     sound_sum sum h (omega arith)
 
-page_lines : (lines : List Line) → AreLines lines → length (page_script_text lines) ≤ 65536 → AreSoundLines lines
+page_lines : (lines : List Line) → AreLines lines → length (page_script_text lines) ≤ SMALL_PAGE_LIMIT → AreSoundLines lines
 page_lines [] h short = tt
 page_lines (line ∷ []) h short = (sound_line (codes "console.log") line h.0 short, tt)
 page_lines (line ∷ (next ∷ lines)) h short =
     let all = length-append (page_line line) (10 ∷ page_script_text (next ∷ lines)) in
     (sound_line (codes "console.log") line h.0 (omega arith), page_lines (next ∷ lines) h.1 (omega arith))
 
-script_lines : (lines : List Line) → AreLines lines → length (flat_map userscript_line lines) ≤ 65536 → AreSoundLines lines
+script_lines : (lines : List Line) → AreLines lines → length (flat_map userscript_line lines) ≤ SMALL_PAGE_LIMIT → AreSoundLines lines
 script_lines [] h short = tt
 script_lines (line ∷ lines) h short =
     let all = length-append (userscript_line line) (flat_map userscript_line lines) in
@@ -101,8 +102,8 @@ userscript_lines text name lines h =
     script_lines lines h.adds (omega (arith, h.short))
 
 -- the lines of a text that is short enough
-pub lines_sound : (zone : Zone) (text : List ℕ) (lines : List Line) → Reads zone text lines → length text ≤ 65536 → AreSoundLines lines
-lines_sound Page text lines h short = page_lines lines h.adds (subst (λ (t : List ℕ). length t ≤ 65536) h.whole short)
+pub lines_sound : (zone : Zone) (text : List ℕ) (lines : List Line) → Reads zone text lines → length text ≤ SMALL_PAGE_LIMIT → AreSoundLines lines
+lines_sound Page text lines h short = page_lines lines h.adds (subst (λ (t : List ℕ). length t ≤ SMALL_PAGE_LIMIT) h.whole short)
 lines_sound XrayScript text lines h short = userscript_lines text h.0 lines h.1
 lines_sound Host text lines h short = absurd h
 lines_sound PlainScript text lines h short = absurd h

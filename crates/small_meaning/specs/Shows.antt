@@ -14,6 +14,7 @@ use Rattle.door.specs.declared.requests.ErrorKind.{ErrorKind}
 use Rattle.door.specs.declared.requests.ErrorKind.TheVariants.{Crossing}
 use Rattle.door.specs.declared.marks.Entry.{Entry}
 use Rattle.door.specs.declared.marks.Entry.TheVariants.{Script}
+use Rattle.small_forms.specs.declared.limits.TheConstants.{SMALL_PAGE_LIMIT}
 use Rattle.small_forms.specs.declared.script.Line.{Line}
 use Rattle.js_semantics.specs.Entries.{Spells}
 use Rattle.small_meaning.specs.Rows.{Reads}
@@ -49,7 +50,7 @@ FitsAnswer answer = Unit {0}
 
 -- a script is at most as long as a page, and where it is read as lines it spells their statements
 abbrev pub FitsEntry : Zone → Entry → Type 0
-FitsEntry zone (Script text) = (length text ≤ 65536) × ((lines : List Line) → Reads zone text lines → Spells text (body_of zone lines))
+FitsEntry zone (Script text) = (length text ≤ SMALL_PAGE_LIMIT) × ((lines : List Line) → Reads zone text lines → Spells text (body_of zone lines))
 FitsEntry zone entry = Unit {0}
 
 abbrev pub FitsShow : Zone → Show → Type 0

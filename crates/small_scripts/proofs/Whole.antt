@@ -6,6 +6,7 @@ use Rattle.base_text.specs.declared.text.TheConstants.{TEXT_LIMIT}
 use Rattle.door.specs.declared.zones.Zone.TheVariants.{Page, XrayScript}
 use Rattle.js_syntax.specs.Symbols.{Tokens}
 use Rattle.js_syntax.specs.TokenScalars.{Scalars, AreAll, is_in_line}
+use Rattle.small_forms.specs.declared.limits.TheConstants.{SCRIPT_LIMIT}
 use Rattle.small_forms.specs.Bytes.{are_in, is_in}
 use Rattle.small_forms.specs.declared.bytes.Class.TheVariants.{Alphanumeric}
 use Rattle.small_forms.specs.declared.script.Line.{Line}
@@ -65,7 +66,7 @@ block Q name rest letters h =
     (past_comment Q (codes " @grant GM_log") closing (each_all is_in_line (codes " @grant GM_log") refl)
     (past_comment Q (codes " ==/UserScript==") rest (each_all is_in_line (codes " ==/UserScript==") refl) h)))
 
-within_limit : (n : ℕ) → n ≤ 1024 → n ≤ TEXT_LIMIT
+within_limit : (n : ℕ) → n ≤ SCRIPT_LIMIT → n ≤ TEXT_LIMIT
 within_limit n h = omega arith
 
 pub userscript_spells : (text name : List ℕ) (lines : List Line) → IsUserscript text name lines → Spells text (body_of XrayScript lines)

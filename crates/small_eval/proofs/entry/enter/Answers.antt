@@ -42,5 +42,5 @@ returns-clause-idle c = λ setups z all.
     let P : World → Type 0 = λ world. AreIdle setups world.journal.marks in
     let E : List ℕ → Type 0 = λ t. c.note.new.world.journal ≡ record c.args.world.now.journal { marks = c.args.world.now.journal.marks ++ Enter c.args.actor (Script t) ∷ [] } in
     on_left c.note-2.result P c.lines-ended.new.world c.note-2.new.world (Leave c.args.actor c.in_ok-outcome.outcome (FUEL_LIMIT - c.lines-ended.new.fuel)) c.note-2.ensures.ok
-    (idle_entry setups c.args.actor c.args.zone c.args.text.now c.in_ok-script.script c.as_slice.result.now c.args.world.now c.note.new.world c.lines-ended.new.world c.lines-ended.result c.in_ok-outcome.outcome c.lines-ended.new.fuel
-    c.requires.guest z c.in_ok-script.ensures c.as_slice.ensures c.in_ok-outcome.ensures.goes c.in_ok-outcome.ensures.outcome (subst E c.in_ok-share.ensures (journal_of _ _ _ c.in_ok-note.ensures.ok)) k c.lines-ended.ensures.own all)
+    (idle_entry setups c.args.actor c.args.zone c.args.text.now c.args.script.now c.args.world.now c.note.new.world c.lines-ended.new.world c.lines-ended.result c.in_ok-outcome.outcome c.lines-ended.new.fuel
+    c.requires.guest z c.requires.reads c.in_ok-outcome.ensures.goes c.in_ok-outcome.ensures.outcome (subst E c.in_ok-share.ensures (journal_of _ _ _ c.in_ok-note.ensures.ok)) k c.lines-ended.ensures.own all)

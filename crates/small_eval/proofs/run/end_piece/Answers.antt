@@ -2,6 +2,8 @@ use Rattle.std.proofs.Common.{◌+◌, ap, sym, subst, ◌∷◌, [], ◌++◌, 
 use Rattle.door.specs.declared.marks.Mark.{Mark}
 use Rattle.door.specs.declared.marks.Task.TheVariants.{Piece}
 use Rattle.door.specs.Record.{Record}
+use Rattle.small_forms.specs.Scripts.{IsPageScript}
+use Rattle.small_forms.specs.declared.script.Line.{Line}
 use Rattle.solo_model.specs.Lawful.{AreTurns}
 use Rattle.small_eval.specs.Bounds.{ENTRY_MARKS, SCRIPT_MARKS}
 use Rattle.small_eval.specs.Heads.{IsHeaded}
@@ -21,21 +23,21 @@ pub enter-requires-clause-headed : goal.enter-requires-clause-headed
 enter-requires-clause-headed c = c.in_ok-build_script.ensures.headed c.requires.headed
 
 pub enter-requires-clause-reads : goal.enter-requires-clause-reads
-enter-requires-clause-reads c = c.requires.reads
+enter-requires-clause-reads c = subst (λ (lines : List Line). IsPageScript c.args.script.now.text lines) (sym c.as_slice.ensures) c.requires.reads
 
 pub enter-requires-clause-room : goal.enter-requires-clause-room
 enter-requires-clause-room c =
-    let gone = gone_built c.args.world.now c.build_script.new.world _ _ 4 c.in_ok-build_script.ensures.built (script_few _ c.args.text.now) in
+    let gone = gone_built c.args.world.now c.build_script.new.world _ _ 4 c.in_ok-build_script.ensures.built (script_few _ c.args.script.now.text) in
     omega (arith, gone.long, gone.limit, c.requires.room.room)
 
 pub enter-requires-clause-limit : goal.enter-requires-clause-limit
 enter-requires-clause-limit c =
-    let gone = gone_built c.args.world.now c.build_script.new.world _ _ 4 c.in_ok-build_script.ensures.built (script_few _ c.args.text.now) in
+    let gone = gone_built c.args.world.now c.build_script.new.world _ _ 4 c.in_ok-build_script.ensures.built (script_few _ c.args.script.now.text) in
     omega (arith, gone.limit, c.requires.room.limit)
 
 pub turn-requires-clause-room : goal.turn-requires-clause-room
 turn-requires-clause-room c =
-    let gone = gone_built c.args.world.now c.build_script.new.world _ _ 4 c.in_ok-build_script.ensures.built (script_few _ c.args.text.now) in
+    let gone = gone_built c.args.world.now c.build_script.new.world _ _ 4 c.in_ok-build_script.ensures.built (script_few _ c.args.script.now.text) in
     let entry = c.in_ok-enter.ensures.entry in
     let more = gone_none c.build_script.new.world c.enter.new.world ENTRY_MARKS c.in_ok-enter.ensures.sound c.in_ok-enter.ensures.own entry.0 entry.1 entry.3 in
     omega (arith, gone.long, gone.limit, more.long, more.limit, c.requires.room.room)
@@ -43,18 +45,18 @@ turn-requires-clause-room c =
 pub returns-clause-lawful : goal.returns-clause-lawful
 returns-clause-lawful c input tasks begun h e =
     let n = c.args.n in
-    let writes = script_writes (length c.args.world.now.own.items) c.args.text.now in
+    let writes = script_writes (length c.args.world.now.own.items) c.args.script.now.text in
     let entry = c.in_ok-enter.ensures.entry in
     let P : List Mark → Type 0 = λ ms. AreTurns input [] (tasks ++ Piece n ∷ []) ms in
-    let built = piece_more input tasks n begun writes (script_nodes c.args.text.now) c.args.world.now c.build_script.new.world h c.in_ok-build_script.ensures.built in
-    let done = piece_done input tasks n (begun ++ writes) (Some c.args.text.now) c.build_script.new.world.journal.marks entry.0 built e entry.2 in
+    let built = piece_more input tasks n begun writes (script_nodes c.args.script.now.text) c.args.world.now c.build_script.new.world h c.in_ok-build_script.ensures.built in
+    let done = piece_done input tasks n (begun ++ writes) (Some c.args.script.now.text) c.build_script.new.world.journal.marks entry.0 built e entry.2 in
     piece_begun input (tasks ++ Piece n ∷ []) (n + 1) c.enter.new.world.journal c.turn.new.world.journal (subst P (sym (ap (λ (r : Record). r.marks) entry.1)) done) c.in_ok-turn.ensures.added
 
 pub returns-clause-gone : goal.returns-clause-gone
 returns-clause-gone c =
-    let nodes = script_nodes c.args.text.now in
+    let nodes = script_nodes c.args.script.now.text in
     let entry = c.in_ok-enter.ensures.entry in
-    let one = gone_built c.args.world.now c.build_script.new.world _ nodes 4 c.in_ok-build_script.ensures.built (script_few _ c.args.text.now) in
+    let one = gone_built c.args.world.now c.build_script.new.world _ nodes 4 c.in_ok-build_script.ensures.built (script_few _ c.args.script.now.text) in
     let two = gone_none c.build_script.new.world c.enter.new.world ENTRY_MARKS c.in_ok-enter.ensures.sound c.in_ok-enter.ensures.own entry.0 entry.1 entry.3 in
     let three = gone_none c.enter.new.world c.turn.new.world 1 c.in_ok-turn.ensures.sound c.in_ok-turn.ensures.same.1 _ c.in_ok-turn.ensures.added (omega arith) in
     let some = gone_then c.args.world.now c.build_script.new.world c.enter.new.world 4 ENTRY_MARKS nodes 0 one two in

@@ -3,6 +3,7 @@ use Rattle.door.specs.declared.marks.Task.{Task}
 use Rattle.solo_model.specs.Lawful.{AreTurns, Input}
 use Rattle.small_eval.specs.Bounds.{LOAD_MARKS, PAGE_MARKS, PAGE_NODES, START_MARKS}
 use Rattle.small_eval.specs.Pieces.{pieces_of}
+use Rattle.small_eval.specs.Turns.{file_texts}
 use Rattle.small_eval.proofs.Turning.{going_more, idle_start, room_going, tasks_whole}
 use Rattle.small_eval.proofs.run.play.Goals as goal
 
@@ -23,7 +24,7 @@ play_event-requires-2-clause-headed c = c.in_ok-play_starts.ensures.going.headed
 
 pub returns-clause-lawful : goal.returns-clause-lawful
 returns-clause-lawful c =
-    let input : Input = record { pieces = pieces_of c.args.page.now; starts = c.args.scripts.now } in
+    let input : Input = record { pieces = pieces_of c.args.page.now; starts = file_texts c.args.scripts.now } in
     let P : List Task → Type 0 = λ tasks. AreTurns input [] tasks c.play_event-2.new.world.journal.marks in
     let one = c.in_ok-play_pieces.ensures.lawful input refl in
     let two = c.in_ok-play_event.ensures.lawful input _ (λ before. refl) one in

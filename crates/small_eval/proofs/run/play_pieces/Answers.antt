@@ -1,4 +1,6 @@
-use Rattle.std.proofs.Common.{ap, refl, arith, length, List, ℕ}
+use Rattle.std.proofs.Common.{ap, refl, arith, length, List}
+use Rattle.std.proofs.lemmas.List.{length-map}
+use Rattle.small_forms.specs.declared.page.PageScript.{PageScript}
 use Rattle.small_eval.proofs.Building.{room_left, room_less, own_built}
 use Rattle.small_eval.proofs.Loops.{body_stands, piece_room, piece_step, pieces_begun, pieces_ended, pieces_going, pieces_own, pieces_room, pieces_start}
 use Rattle.small_eval.proofs.Turning.{page_script_is, text_is}
@@ -23,8 +25,8 @@ build_blocks-requires-clause-body c =
     let more = own_built c.turn.new.world c.build_head.new.world _ 5 c.in_ok-build_head.ensures.built in
     omega (arith, one, more)
 
-pub loop-text-init : goal.loop-text-init
-loop-text-init c = record {
+pub loop-script-init : goal.loop-script-init
+loop-script-init c = record {
   at = pieces_begun c.args.page.now c.args.world.now c.turn.new.world c.build_head.new.world c.build_blocks.new.world c.requires.first c.requires.own c.in_ok-turn.ensures.sound c.in_ok-turn.ensures.same.1 c.in_ok-turn.ensures.added c.in_ok-turn.ensures.idle
       c.in_ok-build_head.ensures.built c.in_ok-build_blocks.ensures.built (c.in_ok-build_blocks.ensures.headed c.in_ok-build_head.ensures.headed);
   number = refl;
@@ -33,47 +35,49 @@ loop-text-init c = record {
 
 pub end_piece-requires-clause-room : goal.end_piece-requires-clause-room
 end_piece-requires-clause-room c =
-    let long = ap (λ (xs : List (List ℕ)). length xs) c.as_slice-text-items.ensures in
-    piece_room c.args.page.now c.loop-text.n c.args.world.now c.loop-text.world c.loop-text.invariant.at (omega (arith, c.loop-text.invariant.number, c.loop-text-test.true, long, c.requires.scripts.1))
+    let long = ap (λ (xs : List PageScript). length xs) c.as_slice-script-items.ensures in
+    piece_room c.args.page.now c.loop-script.n c.args.world.now c.loop-script.world c.loop-script.invariant.at (omega (arith, c.loop-script.invariant.number, c.loop-script-test.true, long, c.requires.scripts.1))
 
 pub end_piece-requires-clause-headed : goal.end_piece-requires-clause-headed
-end_piece-requires-clause-headed c = c.loop-text.invariant.at.going.headed
+end_piece-requires-clause-headed c = c.loop-script.invariant.at.going.headed
 
 pub end_piece-requires-clause-body : goal.end_piece-requires-clause-body
-end_piece-requires-clause-body c = body_stands c.args.page.now c.loop-text.n c.args.world.now c.loop-text.world c.loop-text.invariant.at
+end_piece-requires-clause-body c = body_stands c.args.page.now c.loop-script.n c.args.world.now c.loop-script.world c.loop-script.invariant.at
 
 pub end_piece-requires-clause-few : goal.end_piece-requires-clause-few
 end_piece-requires-clause-few c =
-    let long = ap (λ (xs : List (List ℕ)). length xs) c.as_slice-text-items.ensures in
-    omega (arith, c.loop-text.invariant.number, c.loop-text-test.true, long, c.requires.scripts.1)
+    let long = ap (λ (xs : List PageScript). length xs) c.as_slice-script-items.ensures in
+    omega (arith, c.loop-script.invariant.number, c.loop-script-test.true, long, c.requires.scripts.1)
 
 pub end_piece-requires-clause-reads : goal.end_piece-requires-clause-reads
-end_piece-requires-clause-reads c = page_script_is c.as_slice-text-items.result.now c.text-item.result c.loop-text.text-index _ c.text-item.is (rw (c.as_slice-text-items.ensures) c.requires.scripts.0) c.loop-text-test.true
+end_piece-requires-clause-reads c = page_script_is c.as_slice-script-items.result.now c.script-item.result c.loop-script.script-index _ c.script-item.is (rw (c.as_slice-script-items.ensures) c.requires.scripts.0) c.loop-script-test.true
 
-pub loop-text-preserved : goal.loop-text-preserved
-loop-text-preserved c =
-    let before = c.loop-text.invariant in
+pub loop-script-preserved : goal.loop-script-preserved
+loop-script-preserved c =
+    let before = c.loop-script.invariant in
     let done = c.in_ok-end_piece.ensures in
-    let items = c.as_slice-text-items.ensures in
-    let long = ap (λ (xs : List (List ℕ)). length xs) items in
+    let items = c.as_slice-script-items.ensures in
+    let long = ap (λ (xs : List PageScript). length xs) items in
+    let texts = length-map c.args.page.now.scripts (λ (script : PageScript). script.text) in
     record {
-      at = piece_step c.args.page.now c.loop-text.n c.args.world.now c.loop-text.world c.end_piece.new.world c.text-item.result before.at (omega (arith, before.number, c.loop-text-test.true, long))
-          (text_is c.as_slice-text-items.result.now c.args.page.now.scripts c.text-item.result c.loop-text.text-index c.loop-text.n _ c.text-item.is items before.number c.loop-text-test.true) done.gone done.headed done.lawful done.idle;
+      at = piece_step c.args.page.now c.loop-script.n c.args.world.now c.loop-script.world c.end_piece.new.world c.script-item.result.text before.at (omega (arith, before.number, c.loop-script-test.true, long, texts))
+          (text_is (λ (script : PageScript). script.text) c.as_slice-script-items.result.now c.args.page.now.scripts c.script-item.result c.loop-script.script-index c.loop-script.n _ c.script-item.is items before.number c.loop-script-test.true) done.gone done.headed done.lawful done.idle;
       number = omega (arith, before.number);
-      within = omega (arith, c.loop-text-test.true);
+      within = omega (arith, c.loop-script-test.true);
     }
 
 pub returns-clause-lawful : goal.returns-clause-lawful
 returns-clause-lawful c input e =
-    let all = c.loop-text.invariant in
-    let long = ap (λ (xs : List (List ℕ)). length xs) c.as_slice-text-items.ensures in
-    pieces_ended c.args.page.now c.loop-text.n c.args.world.now c.loop-text.world all.at (omega (arith, all.number, all.within, c.loop-text-test.false, long)) input e
+    let all = c.loop-script.invariant in
+    let long = ap (λ (xs : List PageScript). length xs) c.as_slice-script-items.ensures in
+    let texts = length-map c.args.page.now.scripts (λ (script : PageScript). script.text) in
+    pieces_ended c.args.page.now c.loop-script.n c.args.world.now c.loop-script.world all.at (omega (arith, all.number, all.within, c.loop-script-test.false, long, texts)) input e
 
 pub returns-clause-going : goal.returns-clause-going
 returns-clause-going c =
-    let all = c.loop-text.invariant in
-    let long = ap (λ (xs : List (List ℕ)). length xs) c.as_slice-text-items.ensures in
-    pieces_going c.args.page.now c.loop-text.n c.args.world.now c.loop-text.world all.at (omega (arith, all.number, all.within, long, c.requires.scripts.1))
+    let all = c.loop-script.invariant in
+    let long = ap (λ (xs : List PageScript). length xs) c.as_slice-script-items.ensures in
+    pieces_going c.args.page.now c.loop-script.n c.args.world.now c.loop-script.world all.at (omega (arith, all.number, all.within, long, c.requires.scripts.1))
 
 pub returns-clause-idle : goal.returns-clause-idle
-returns-clause-idle c setups zone s = c.loop-text.invariant.at.idle setups zone s
+returns-clause-idle c setups zone s = c.loop-script.invariant.at.idle setups zone s

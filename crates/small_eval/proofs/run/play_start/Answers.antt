@@ -1,5 +1,7 @@
-use Rattle.std.proofs.Common.{refl, sym, subst, arith}
+use Rattle.std.proofs.Common.{refl, sym, subst, arith, List}
 use Rattle.door.specs.declared.marks.Task.TheVariants.{Start}
+use Rattle.small_forms.specs.Scripts.{IsUserscript}
+use Rattle.small_forms.specs.declared.script.Line.{Line}
 use Rattle.small_eval.specs.Bounds.{ENTRY_MARKS, SCRIPT_MARKS}
 use Rattle.small_eval.specs.Heads.{IsHeaded}
 use Rattle.small_eval.proofs.Turning.{gone_less, gone_none, gone_then, turn_done}
@@ -12,7 +14,8 @@ pub enter-requires-clause-headed : goal.enter-requires-clause-headed
 enter-requires-clause-headed c = subst IsHeaded (sym c.in_ok-turn.ensures.same.0) c.requires.headed
 
 pub enter-requires-clause-reads : goal.enter-requires-clause-reads
-enter-requires-clause-reads c = let (name, lines, is) = c.requires.reads in (lines, (name, is))
+enter-requires-clause-reads c =
+    (c.args.script.now.name, subst (λ (lines : List Line). IsUserscript c.args.script.now.text c.args.script.now.name lines) (sym c.as_slice.ensures) c.requires.reads)
 
 pub enter-requires-clause-room : goal.enter-requires-clause-room
 enter-requires-clause-room c =
@@ -27,7 +30,7 @@ enter-requires-clause-limit c =
 pub returns-clause-lawful : goal.returns-clause-lawful
 returns-clause-lawful c input tasks e h =
     let entry = c.in_ok-enter.ensures.entry in
-    turn_done input tasks (Start c.args.n) c.args.world.now.journal c.turn.new.world.journal c.enter.new.world.journal entry.0 h c.in_ok-turn.ensures.added entry.1 (c.args.text.now, e, entry.2)
+    turn_done input tasks (Start c.args.n) c.args.world.now.journal c.turn.new.world.journal c.enter.new.world.journal entry.0 h c.in_ok-turn.ensures.added entry.1 (c.args.script.now.text, e, entry.2)
 
 pub returns-clause-gone : goal.returns-clause-gone
 returns-clause-gone c =

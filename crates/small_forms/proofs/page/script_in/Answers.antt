@@ -13,7 +13,7 @@ returns-in_default-clause-none c text rest lines is e =
 pub returns-in_default-2-clause-none : goal.returns-in_default-2-clause-none
 returns-in_default-2-clause-none c text rest lines is e =
     let same = script_front c.args.inside.now c.front.result.0.now c.front.result.1.now text rest lines c.front.ensures.whole c.front.ensures.inside c.front.ensures.stops is e in
-    let none = rw c.in_default-2.is at c.in_ok-page_lines_in.ensures.none in
+    let none = rw c.in_default-2.is at c.in_ok-lines.ensures.none in
     none lines (subst (λ t. IsPageScript t lines) (sym same.0) is)
 
 pub text_of-requires-clause-ascii : goal.text_of-requires-clause-ascii

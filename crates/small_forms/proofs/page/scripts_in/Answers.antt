@@ -9,26 +9,26 @@ use Rattle.small_forms.proofs.page.scripts_in.Goals as goal
 
 pub returns-in_default-2-clause-none : goal.returns-in_default-2-clause-none
 returns-in_default-2-clause-none c scripts are few e =
-    let none = rw c.in_default-2.is at c.in_ok-text.ensures.none in
+    let none = rw c.in_default-2.is at c.in_ok-script.ensures.none in
     let element = left-element _ c.loop-inside.rest.now c.in-Some.inside.now c.in-Some.ensures.some (c.loop-inside.invariant.only scripts are few e) in
     none element.text (flat_map element_text element.scripts ++ page_end) element.lines element.is element.whole
 
 pub loop-inside-preserved : goal.loop-inside-preserved
 loop-inside-preserved c =
-    let fact = rw c.in-Some-2.is at c.in_ok-text.ensures.some in
+    let fact = rw c.in-Some-2.is at c.in_ok-script.ensures.some in
     let more = c.in_ok-push.ensures.ok in
-    let long = push_length c.loop-inside.scripts c.in-Some-2.text in
+    let long = push_length c.loop-inside.scripts c.in-Some-2.script in
     record {
-      front = rw more (elements_read c.args.bytes.now c.loop-inside.scripts c.loop-inside.rest.now c.in-Some.inside.now c.in-Some-2.text c.in-Some-2.left.now c.loop-inside.invariant.front c.in-Some.ensures.some fact.0);
-      scripts = rw more (are-more c.loop-inside.scripts c.in-Some-2.text fact.1.0 c.loop-inside.invariant.scripts fact.1.1);
-      few = rw more (omega (arith, long, c.loop-inside.invariant.few, c.len.ensures, c.if-len-eq-MOST_SCRIPTS.false));
+      front = rw more (elements_read c.args.bytes.now c.loop-inside.scripts c.loop-inside.rest.now c.in-Some.inside.now c.in-Some-2.script c.in-Some-2.left.now c.loop-inside.invariant.front c.in-Some.ensures.some fact.0);
+      scripts = rw more (are-more c.loop-inside.scripts c.in-Some-2.script c.loop-inside.invariant.scripts fact.1);
+      few = rw more (omega (arith, long, c.loop-inside.invariant.few, c.len.ensures, c.if-len-eq-PAGE_SCRIPT_LIMIT.false));
       only = λ scripts are few e.
           let element = left-element _ c.loop-inside.rest.now c.in-Some.inside.now c.in-Some.ensures.some (c.loop-inside.invariant.only scripts are few e) in
-          let next = left-more _ c.in-Some.inside.now c.in-Some-2.text c.in-Some-2.left.now fact.1.0 fact.0 fact.1.1 element in
+          let next = left-more _ c.in-Some.inside.now c.in-Some-2.script.text c.in-Some-2.left.now c.in-Some-2.script.lines fact.0 fact.1 element in
           subst (λ n. AreLeft n c.in-Some-2.left.now) (sym (ap length more ∙ long)) next;
       short =
           let after = shorter c.loop-inside.rest.now (codes "<script>") c.in-Some.inside.now c.in-Some.ensures.some in
-          let ended = shorter c.in-Some.inside.now c.in-Some-2.text (codes "</script>" ++ c.in-Some-2.left.now) fact.0 in
+          let ended = shorter c.in-Some.inside.now c.in-Some-2.script.text (codes "</script>" ++ c.in-Some-2.left.now) fact.0 in
           let less = shorter (codes "</script>" ++ c.in-Some-2.left.now) (codes "</script>") c.in-Some-2.left.now refl in
           omega (arith, c.loop-inside.invariant.short, after, ended, less);
     }
