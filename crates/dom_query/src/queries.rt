@@ -7,7 +7,7 @@ ghost use Rattle.dom_semantics.specs.Queries as spec;
 
 use crate::fits::{fits, is_same_name, is_text};
 use crate::selector::Selector;
-use crate::walk::{depth_limit, descendants, first_of_id};
+use crate::walk::{descendants, first_of_id};
 use base_text::{Mem, Text};
 use dom_tree::{NodeForm, NodeId, Tree};
 use std::alloc::Global;
@@ -43,7 +43,7 @@ fn document(tree: &Tree) -> NodeId
 pub fn by_id(tree: &Tree, id: &Text) -> Option<NodeId>
     ensures { number_of result ≡ spec.first_of_id tree.now id.now }
 {
-    first_of_id(tree, id, document(tree), depth_limit() + 1)
+    first_of_id(tree, id, document(tree))
 }
 
 fn is_of_tag(tree: &Tree, tag: &Text, n: NodeId) -> bool

@@ -5,6 +5,7 @@ pub mod Copied
 pub mod CopySteps
 pub mod CountLemmas
 pub mod Counted
+pub mod Folds
 pub mod Gathered
 pub mod LevelLemmas
 pub mod Lists

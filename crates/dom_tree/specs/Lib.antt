@@ -1,6 +1,7 @@
 pub mod Ancestors
 pub mod Copies
 pub mod Counts
+pub mod Folds
 pub mod Forms
 pub mod Ids
 pub mod Places

@@ -1,6 +1,6 @@
 //! Copies of nodes (DOM, Interface Node, cloneNode).
 
-ghost use Rattle.std.specs.Prelude.{◌≡◌, ◌<◌, ◌≤◌, ◌+◌, ◌^◌, length, nat_le, if◌then◌else◌, IfOk, OnOk, OnErr};
+ghost use Rattle.std.specs.Prelude.{◌≡◌, ◌<◌, ◌≤◌, ◌+◌, ◌^◌, length, nat_le, if◌then◌else◌, IfOk, OnOk, OnErr, MatchResult};
 ghost use Rattle.dom_semantics.specs.Forest.{made_by, tree_order, NODE_LIMIT};
 ghost use Rattle.dom_semantics.specs.Changes.{cloned, cloned_alone, cloned_deep, clone_refusal};
 ghost use Rattle.dom_tree.specs.Refused.{Refuses};
@@ -8,7 +8,6 @@ ghost use Rattle.dom_tree.specs.Refused.{Refuses};
 use crate::copies::{Copies, copy_below};
 use crate::counts::count_of;
 use crate::form::{NodeId, TreeFault};
-use crate::levels::room_left;
 use crate::limits::{depth_limit, node_limit};
 use crate::node_changes::{add_node, add_nodes};
 use crate::tree::Tree;
@@ -49,10 +48,19 @@ impl Tree {
         ensures { result ≡ nat_le (made_by self.now maker + (if deep then length (tree_order self.now n) else 1)) NODE_LIMIT }
     {
         let room = node_limit().saturating_sub(count_of(&self.counts, maker));
-        if deep {
-            room_left(&self.nodes, n, depth_limit() + 1, room).is_some()
-        } else {
-            room > 0
+        if deep { self.fits(n, room) } else { room > 0 }
+    }
+
+    /// Whether a node and its descendants are no more than so many.
+    fn fits(&self, n: u32, room: u32) -> bool
+        requires { n < length self.now }
+        ensures { result ≡ nat_le (length (tree_order self.now n)) room }
+    {
+        match one_less(room) {
+            Ok(left) => self
+                .try_fold_descendants(NodeId(n), left, |left, _| one_less(left))
+                .is_ok(),
+            Err(_) => false,
         }
     }
 
@@ -98,4 +106,14 @@ impl Tree {
         )?;
         Ok(())
     }
+}
+
+/// Room for one node less, if there is room for one.
+fn one_less(room: u32) -> Result<u32, ()>
+    ensures { MatchResult result (λ left. left + 1 ≡ room) (λ _. room ≡ 0) }
+{
+    if room == 0 {
+        return Err(());
+    }
+    Ok(room - 1)
 }

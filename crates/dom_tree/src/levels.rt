@@ -1,7 +1,7 @@
-//! How many levels the tree under a node has, and how many nodes.
+//! How many levels the tree under a node has.
 
-ghost use Rattle.std.specs.Prelude.{◌≡◌, ◌<◌, ◌+◌, length, MatchOption};
-ghost use Rattle.dom_semantics.specs.Forest.{has_levels, in_order};
+ghost use Rattle.std.specs.Prelude.{◌≡◌, ◌<◌, length};
+ghost use Rattle.dom_semantics.specs.Forest.{has_levels};
 ghost use Rattle.dom_tree.specs.Ancestors.{AreNodes};
 
 use crate::node::Stored;
@@ -21,24 +21,4 @@ pub fn fits_levels(nodes: &[Stored], n: u32, levels: u32) -> bool
         }
     }
     true
-}
-
-/// What is left of some room after a node and all below it, for so many levels; none where they need
-/// more.
-pub fn room_left(nodes: &[Stored], n: u32, levels: u32, room: u32) -> Option<u32>
-    requires known { AreNodes nodes.now }
-    requires node { n < length nodes.now }
-    ensures { MatchOption result (room < length (in_order levels nodes.now n)) (λ left. left + length (in_order levels nodes.now n) ≡ room) }
-{
-    if levels == 0 {
-        return Some(room);
-    }
-    if room == 0 {
-        return None;
-    }
-    let mut left = room - 1;
-    for child in nodes[n as usize].children() {
-        left = room_left(nodes, *child, levels - 1, left)?;
-    }
-    Some(left)
 }

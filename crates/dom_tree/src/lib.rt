@@ -20,6 +20,7 @@ mod tests;
 mod text_content;
 mod texts;
 mod tree;
+mod tree_order;
 
 pub use form::{NodeForm, NodeId, TreeFault};
 pub use limits::TREE_LEVELS;

@@ -1,3 +1,5 @@
+//! What trees do while there is memory.
+
 use super::*;
 use base_text::Text;
 use door::Actor;

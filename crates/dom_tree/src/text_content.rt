@@ -1,23 +1,16 @@
 //! The text in a node (DOM, get text content).
 
 ghost use Rattle.std.specs.Prelude.{◌≡◌, ◌<◌, ◌≤◌, length, OnOk, IfOk, IfErr};
-ghost use Rattle.std.specs.Option.{option_copied};
 ghost use Rattle.std.specs.String.{string_bytes};
-ghost use Prim.Native.Nat.{suc};
 ghost use Rattle.base_text.specs.declared.text.TheConstants.{TEXT_LIMIT};
-ghost use Rattle.dom_semantics.specs.Forest.{text_of, own_text, DEPTH_LIMIT};
+ghost use Rattle.dom_semantics.specs.Forest.{descendant_text, form_at, own_text, text_of};
 ghost use Rattle.dom_semantics.specs.Changes.{read_refusal};
-ghost use Rattle.dom_tree.specs.Ancestors.{AreNodes};
-ghost use Rattle.dom_tree.specs.Forms.{form_or_document};
 ghost use Rattle.dom_tree.specs.Refused.{IsDue};
-ghost use Rattle.dom_tree.specs.Texts.{texts_in, FitsText, Gathers};
+ghost use Rattle.dom_tree.specs.Texts.{FitsText, Gathers};
 
 use crate::form::{NodeForm, NodeId, TreeFault};
-use crate::limits::depth_limit;
-use crate::node::Stored;
 use crate::tree::Tree;
 use base_text::{TEXT_LIMIT, Text, TextFault};
-use std::alloc::Global;
 
 impl Tree {
     /// The data of a text or a comment, and of any other node all texts below it, joined.
@@ -29,25 +22,48 @@ impl Tree {
         ensures short { OnOk result (read_refusal self.now node.0 ≡ None) }
         ensures refused { IfErr result (λ fault. IsDue fault (read_refusal self.now node.0)) }
     {
-        match text_at(self.alloc, &self.nodes, node.0) {
+        match self.text_at(node) {
             Ok(text) => Ok(text),
             Err(TextFault::TooLong) => Err(TreeFault::TooLong),
             Err(TextFault::NoMemory) => Err(TreeFault::NoMemory),
         }
     }
-}
 
-/// The text in a node.
-fn text_at(alloc: Global, nodes: &[Stored], n: u32) -> Result<Text, TextFault>
-    requires known { AreNodes nodes.now }
-    requires node { n < length nodes.now }
-    ensures { FitsText result (text_of nodes.now n) }
-{
-    match nodes[n as usize].form() {
-        Some(NodeForm::Str(text)) => short(text),
-        Some(NodeForm::Comment(text)) => short(text),
-        Some(NodeForm::Element(_)) => joined(alloc, nodes, n),
-        None => joined(alloc, nodes, n),
+    /// The text in a node.
+    fn text_at(&self, node: NodeId) -> Result<Text, TextFault>
+        requires { node.0 < length self.now }
+        ensures { FitsText result (text_of self.now node.0) }
+    {
+        match self.form(node) {
+            Some(NodeForm::Str(text)) => short(text),
+            Some(NodeForm::Comment(text)) => short(text),
+            Some(NodeForm::Element(_)) => self.joined(node),
+            None => self.joined(node),
+        }
+    }
+
+    /// All texts below a node, joined.
+    fn joined(&self, node: NodeId) -> Result<Text, TextFault>
+        requires { node.0 < length self.now }
+        ensures { FitsText result (descendant_text self.now node.0) }
+    {
+        let none = String::new(self.alloc);
+        match self.try_fold_descendants(node, none, |text, n| self.gather(text, n)) {
+            Ok(text) => Text::of(self.alloc, &text),
+            Err(fault) => Err(fault),
+        }
+    }
+
+    /// Adds the text that a node itself is.
+    fn gather(&self, text: String, n: NodeId) -> Result<String, TextFault>
+        requires known { n.0 < length self.now }
+        requires short { length (string_bytes text) ≤ TEXT_LIMIT }
+        ensures { Gathers (λ t. string_bytes t) text result (own_text (form_at self.now n.0)) }
+    {
+        match self.form(n) {
+            Some(NodeForm::Str(own)) => add(text, own),
+            _ => Ok(text),
+        }
     }
 }
 
@@ -61,60 +77,14 @@ fn short(text: &Text) -> Result<Text, TextFault>
     Ok(text.share()?)
 }
 
-/// All texts of a node and below it, joined.
-fn joined(alloc: Global, nodes: &[Stored], n: u32) -> Result<Text, TextFault>
-    requires known { AreNodes nodes.now }
-    requires node { n < length nodes.now }
-    ensures { FitsText result (texts_in (suc DEPTH_LIMIT) nodes.now n) }
-{
-    let mut text = String::new(alloc);
-    match gather(nodes, n, depth_limit() + 1, &mut text) {
-        Ok(()) => Text::of(alloc, &text),
-        Err(fault) => Err(fault),
-    }
-}
-
-/// Adds the texts of a node and below it, for so many levels.
-fn gather(nodes: &[Stored], n: u32, levels: u32, text: &mut String) -> Result<(), TextFault>
-    requires known { AreNodes nodes.now }
-    requires node { n < length nodes.now }
-    requires short { length (string_bytes text.old) ≤ TEXT_LIMIT }
-    ensures { Gathers (string_bytes text.old) (string_bytes text.new) result (texts_in levels nodes.now n) }
-{
-    if levels == 0 {
-        return Ok(());
-    }
-    let node = &nodes[n as usize];
-    if let Err(fault) = add_own(node.form(), text) {
-        return Err(fault);
-    }
-    for child in node.children() {
-        if let Err(fault) = gather(nodes, *child, levels - 1, text) {
-            return Err(fault);
-        }
-    }
-    Ok(())
-}
-
-/// Adds the text that a node itself is.
-fn add_own(form: Option<&NodeForm>, text: &mut String) -> Result<(), TextFault>
-    requires { length (string_bytes text.old) ≤ TEXT_LIMIT }
-    ensures { Gathers (string_bytes text.old) (string_bytes text.new) result (own_text (form_or_document (option_copied form.entry))) }
-{
-    match form {
-        Some(NodeForm::Str(own)) => add(own, text),
-        _ => Ok(()),
-    }
-}
-
-fn add(own: &Text, text: &mut String) -> Result<(), TextFault>
-    requires { length (string_bytes text.old) ≤ TEXT_LIMIT }
-    ensures { Gathers (string_bytes text.old) (string_bytes text.new) result own.now }
+fn add(mut text: String, own: &Text) -> Result<String, TextFault>
+    requires { length (string_bytes text) ≤ TEXT_LIMIT }
+    ensures { Gathers (λ t. string_bytes t) text result own.now }
 {
     let own = own.as_str();
     if text.len() + own.len() > TEXT_LIMIT {
         return Err(TextFault::TooLong);
     }
     text.push_str(own)?;
-    Ok(())
+    Ok(text)
 }

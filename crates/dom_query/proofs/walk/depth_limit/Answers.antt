@@ -1,7 +1,0 @@
-use Rattle.std.proofs.Common.{refl}
-use Rattle.dom_semantics.specs.Forest.{DEPTH_LIMIT}
-use Rattle.dom_query.proofs.walk.depth_limit.Goals as goal
-
-pub returns : goal.returns
-unfolding DEPTH_LIMIT
-returns c = refl
