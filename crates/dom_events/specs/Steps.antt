@@ -1,5 +1,5 @@
 -- What a step of a walk does to what the code keeps.
-use Rattle.std.specs.Prelude.{◌≡◌, ◌+◌, ℕ, List, drop, Option, Some, None}
+use Rattle.std.specs.Prelude.{◌≡◌, ◌≢◌, ◌+◌, ℕ, false, List, drop, Option, Some, None}
 use Rattle.dom_semantics.specs.declared.events.Event.{Event}
 use Rattle.dom_semantics.specs.declared.listeners.Due.{Due}
 use Rattle.dom_semantics.specs.declared.listeners.Visit.{Visit}
@@ -26,3 +26,16 @@ abbrev pub Proceeds : Option Step → Option Due → Walk → Walk → List Even
 Proceeds None due old new before now = (due ≡ None) × (new ≡ old) × (now ≡ with_event before old.event (event_ended (event_at before old.event)))
 Proceeds (Some step) due old new before now =
     (due ≡ Some step.due) × (new ≡ step.left) × (now ≡ with_event before old.event (event_visiting step.due.visit (event_at before old.event)))
+
+-- the event is in no dispatch, none of its listeners runs, and no flag stops its next walk (DOM, dispatch, steps 6 to 10)
+pub record IsOver (event : Event) : Type 0 where
+  pub in_dispatch : event.in_dispatch ≡ false
+  pub stop : event.stop ≡ false
+  pub stop_now : event.stop_now ≡ false
+  pub current : event.current ≡ None
+  pub phase : event.phase ≡ 0
+
+-- nothing is due exactly where there is no step, and then the event's dispatch is over
+abbrev pub Ends : Option Step → Option Due → Event → Type 0
+Ends None due event = (due ≡ None) × IsOver event
+Ends (Some step) due event = due ≢ None

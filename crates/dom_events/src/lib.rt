@@ -6,6 +6,8 @@ mod listeners;
 mod path;
 mod same;
 mod walk;
+#[cfg(test)]
+mod walk_tests;
 
 pub use dom_semantics::{Due, Event, EventForm, Flag, Listener};
 pub use events::{EventFault, Events};

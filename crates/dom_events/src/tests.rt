@@ -2,7 +2,7 @@
 use crate::*;
 use base_text::Text;
 use dom_tree::{NodeForm, NodeId, Tree};
-use door::{DOCUMENT, Kind, PAGE, Thing, Value};
+use door::{Actor, DOCUMENT, Kind, PAGE, Thing, Value};
 use std::alloc::Global;
 use std::process::Abort;
 use std::test::Fail;
@@ -142,5 +142,41 @@ fn listeners_are_called_along_the_path(rt: HostRuntime) -> Result<(), Fail> {
         walks(&rt, alloc, &tree, &listeners, &mut events, stops, wants)?;
     }
     remove_twice(&rt, &mut listeners, &listener(alloc, ELEMENT, 7)?);
+    Ok(())
+}
+
+/// Whether a listener of an owner is refused because of the limit.
+fn is_over(
+    rt: &impl Abort,
+    alloc: Global,
+    listeners: &mut Listeners,
+    owner: Actor,
+    callback: u32,
+) -> Result<bool, Fail> {
+    let mut l = listener(alloc, ELEMENT, callback)?;
+    l.owner = owner;
+    assert!(rt; listeners.given < 1_000_000);
+    Ok(listeners.add(l) == Err(ListenerFault::ListenerLimit))
+}
+
+#[test]
+fn ten_thousand_of_an_owner_are_registered(rt: HostRuntime) -> Result<(), Fail> {
+    let alloc = rt.alloc();
+    let mut listeners = Listeners::new(alloc);
+    for callback in 0..10_000 {
+        add(&rt, &mut listeners, listener(alloc, ELEMENT, callback)?)?;
+    }
+    for (owner, callback, over, count) in [
+        (PAGE, 10_000, true, 10_000),
+        (PAGE, 9_999, false, 10_000),
+        (Actor(2), 10_000, false, 10_001),
+        (PAGE, 10_000, true, 10_001),
+    ] {
+        assert_eq!(rt; is_over(&rt, alloc, &mut listeners, owner, callback)?, over);
+        assert_eq!(rt; listeners.as_slice().len(), count);
+    }
+    assert!(rt; listeners.remove(&listener(alloc, ELEMENT, 0)?));
+    assert!(rt; !is_over(&rt, alloc, &mut listeners, PAGE, 10_000)?);
+    assert!(rt; is_over(&rt, alloc, &mut listeners, PAGE, 0)?);
     Ok(())
 }

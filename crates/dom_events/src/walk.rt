@@ -5,7 +5,7 @@ ghost use Rattle.std.specs.declared.option.Option.{Option};
 ghost use Rattle.dom_semantics.specs.declared.listeners.Visit.{Visit as AnyVisit};
 ghost use Rattle.dom_semantics.specs.Events as event;
 ghost use Rattle.dom_semantics.specs.Walks as spec;
-ghost use Rattle.dom_events.specs.Steps.{Steps, Proceeds, came_step, found_at};
+ghost use Rattle.dom_events.specs.Steps.{Steps, Proceeds, Ends, came_step, found_at};
 ghost use Rattle.dom_semantics.specs.Walks.{is_number};
 
 use crate::events::Events;
@@ -201,6 +201,7 @@ pub fn next_listener(
 ) -> Mem<Option<Due>>
     requires { walk.old.event < length events.old }
     ensures ok { IfOk result (λ due. Proceeds (spec.step_of listeners.now.registered (event.event_at events.old walk.old.event) walk.old) due walk.old walk.new events.old events.new) }
+    ensures ended { IfOk result (λ due. Ends (spec.step_of listeners.now.registered (event.event_at events.old walk.old.event) walk.old) due (event.event_at events.new walk.old.event)) }
     ensures err { OnErr result (walk.new ≡ walk.old) }
     ensures events { OnErr result (events.new ≡ events.old) }
 {
