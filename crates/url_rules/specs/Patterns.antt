@@ -1,5 +1,5 @@
 -- Regular expressions: which are built, and when one is refused.
-use Rattle.std.specs.Prelude.{◌≡◌, ◌≢◌, ◌≤◌, ◌+◌, ◌-◌, ◌^◌, ℕ, min, List, [], ◌∷◌, ◌++◌, Bool, false, ◌==◌, ◌&&◌, if◌then◌else◌, Result, Ok, Err}
+use Rattle.std.specs.Prelude.{◌≡◌, ◌≢◌, ◌+◌, ◌-◌, ◌^◌, ℕ, min, List, [], ◌∷◌, ◌++◌, Bool, false, ◌==◌, ◌&&◌, if◌then◌else◌, Result, Ok, Err}
 use Rattle.regex_syntax.specs.declared.error.ErrorKind.{ErrorKind}
 use Rattle.regex_syntax.specs.declared.error.ErrorKind.TheVariants.{OutOfMemory}
 use Rattle.regex.specs.Failures.{IsPattern}
@@ -27,9 +27,9 @@ IsExpressionText source = IsPattern default_config source
 abbrev pub risen : ℕ → ℕ
 risen count = min (count + 1) (2 ^ 64 - 1)
 
--- the count has risen, or stands at its last value
+-- the count has risen by one, or stands at its last value
 abbrev pub Rose : ℕ → ℕ → Type 0
-Rose before now = risen before ≤ now
+Rose before now = now ≡ risen before
 
 -- the count of size refusals after a call with this result
 abbrev pub refused_after : ℕ → Result Regex BuildFault → ℕ

@@ -1,8 +1,8 @@
 -- How the value of a rule is read: the grammar of match patterns, and that of includes and excludes (this project's own words,
 -- after the Greasemonkey manual, Include and exclude rules, and MDN, Match patterns).
-use Rattle.std.specs.Prelude.{⊤, ◌≡◌, ◌≢◌, ℕ, List, [], ◌∷◌, ◌++◌, Bool, true, ◌&&◌, ◌||◌, ◌==◌, nat_le, codes, encode_utf8_all}
+use Rattle.std.specs.Prelude.{⊤, ◌≡◌, ◌≢◌, ℕ, List, [], ◌∷◌, ◌++◌, Bool, true, ◌&&◌, ◌||◌, ◌==◌, nat_le, codes, encode_utf8_all, Result, Ok, Err}
 use Rattle.std.specs.List.{list_all}
-use Rattle.url_rules.specs.Patterns.{IsBuilt, IsExpression, RefusedByGrammar, Rose, unescaped}
+use Rattle.url_rules.specs.Patterns.{IsBuilt, IsExpression, RefusedByGrammar, Rose, risen, unescaped}
 use Rattle.url_rules.specs.declared.rules.SchemeRule.{SchemeRule}
 use Rattle.url_rules.specs.declared.rules.SchemeRule.TheVariants.{HttpOrHttps, Http, Https, Ftp, File}
 use Rattle.url_rules.specs.declared.rules.HostRule.{HostRule}
@@ -82,6 +82,14 @@ RefusesRule before after line s fault.PatternSyntax = IsNoExpression line s
 RefusesRule before after line s fault.PatternTooBig = IsTooBig before after line s
 RefusesRule before after line s fault.NoMemory = ⊤
 
--- the value is refused
+-- the count of size refusals after a value was read with this result
+abbrev pub refused_by : ℕ → Result Rule RuleFault → ℕ
+refused_by before (Ok _) = before
+refused_by before (Err fault.BadPattern) = before
+refused_by before (Err fault.PatternSyntax) = before
+refused_by before (Err fault.PatternTooBig) = risen before
+refused_by before (Err fault.NoMemory) = before
+
+-- the value is refused, and the count went from `before` to `after`
 abbrev pub IsRefused : ℕ → ℕ → RuleKind → List ℕ → Type 0
-IsRefused before after line s = (f : RuleFault) × (f ≢ fault.NoMemory) × RefusesRule before after line s f
+IsRefused before after line s = (f : RuleFault) × (f ≢ fault.NoMemory) × RefusesRule before after line s f × (after ≡ refused_by before (Err f))

@@ -23,13 +23,14 @@ pub trait Patterns {
 
     /// The regular expression that `regex` reads in `s`.
     ///
-    /// `Syntax` only where the grammar of `regex` has no reading of `s` or it nests too deep; `TooBig` only where the
-    /// count rose in this call. The count never falls.
+    /// `Syntax` only where the grammar of `regex` has no reading of `s` or it nests too deep. The count rises by one
+    /// exactly where the answer is `TooBig`, and never falls.
     fn build(&mut self, alloc: Global, s: &str) -> Result<Regex, BuildFault>
         ensures ok { IfOk result (IsBuilt s.now) }
         ensures syntax { IsErrOf result BuildFault.Syntax → RefusedByGrammar s.now }
         ensures too_big { IsErrOf result BuildFault.TooBig → Rose (refusals self.old) (refusals self.new) }
-        ensures count { refusals self.old ≤ refusals self.new };
+        ensures count { refusals self.old ≤ refusals self.new }
+        ensures exact { refusals self.new ≡ refused_after (refusals self.old) result };
 }
 
 /// Builds by `regex`, but for the listed calls, which answer `TooBig`.
@@ -73,12 +74,12 @@ impl Patterns for RegexPatterns {
         ensures syntax { IsErrOf result BuildFault.Syntax → RefusedByGrammar s.now }
         ensures too_big { IsErrOf result BuildFault.TooBig → Rose self.old.refused self.new.refused }
         ensures count { self.old.refused ≤ self.new.refused }
+        ensures exact { self.new.refused ≡ refused_after self.old.refused result }
         ensures listed { Contains self.old.failing.items (risen self.old.made)
             → IsErrOf result BuildFault.TooBig }
         ensures others { IsErrOf result BuildFault.TooBig
             → Contains self.old.failing.items (risen self.old.made) ⊎ IsExpressionText s.now }
         ensures made { self.new.made ≡ risen self.old.made }
-        ensures refused { self.new.refused ≡ refused_after self.old.refused result }
         ensures failing { self.new.failing.items ≡ self.old.failing.items }
     {
         self.made = self.made.saturating_add(1);

@@ -6,7 +6,7 @@ ghost use Rattle.url_rules.specs.Patterns.{IsExpression, RefusedByGrammar, Rose,
 ghost use Rattle.url_rules.specs.declared.rules.Rule.{Rule};
 ghost use Rattle.url_rules.specs.declared.rules.HostRule.{HostRule};
 ghost use Rattle.url_rules.specs.declared.rules.SchemeRule.{SchemeRule};
-ghost use Rattle.url_rules.specs.Reads.{is_name_byte as name_byte, IsName, scheme_text, ReadsHost, ReadsPattern, ReadsRule, ReadsGlob, IsNoPattern, IsNoExpression, IsTooBig};
+ghost use Rattle.url_rules.specs.Reads.{is_name_byte as name_byte, IsName, scheme_text, ReadsHost, ReadsPattern, ReadsRule, ReadsGlob, IsNoPattern, IsNoExpression, IsTooBig, refused_by};
 
 use crate::patterns::{BuildFault, Patterns, unescape};
 use crate::rules::{HostRule, MatchPattern, Rule, SchemeRule};
@@ -89,6 +89,7 @@ fn read_glob<P: Patterns>(alloc: Global, patterns: &mut P, s: &str) -> Result<Ru
     ensures too_big { IsErrOf result RuleFault.PatternTooBig → ((middle : List ℕ) × IsExpression s.now middle)
         × Rose (P.refusals patterns.old) (P.refusals patterns.new) }
     ensures count { P.refusals patterns.old ≤ P.refusals patterns.new }
+    ensures exact { P.refusals patterns.new ≡ refused_by (P.refusals patterns.old) result }
     ensures plain { ((middle : List ℕ) → IsExpression s.now middle → ⊥) → P.refusals patterns.new ≡ P.refusals patterns.old }
 {
     let Some(middle) = middle_of(s) else {
@@ -231,8 +232,8 @@ fn read_pattern(alloc: Global, s: &str) -> Result<Rule, RuleFault>
 /// The rule that is the value `s` of a line of this kind, with at most 262,144 bytes.
 ///
 /// `BadPattern` exactly where `s` is the value of a `@match` line and no match pattern. `PatternSyntax` only where the
-/// grammar of `regex` has no reading of the expression or it nests too deep, and `PatternTooBig` only where the count
-/// of size refusals rose in this call, which it never does for a `@match` line or a value that is no expression.
+/// grammar of `regex` has no reading of the expression or it nests too deep. The count of size refusals rises by one
+/// exactly where the answer is `PatternTooBig`, which a `@match` line or a value that is no expression never has.
 pub fn read_rule<P: Patterns>(
     alloc: Global,
     patterns: &mut P,
@@ -246,6 +247,7 @@ pub fn read_rule<P: Patterns>(
     ensures too_big { IsErrOf result RuleFault.PatternTooBig
         → IsTooBig (P.refusals patterns.old) (P.refusals patterns.new) kind s.now }
     ensures count { P.refusals patterns.old ≤ P.refusals patterns.new }
+    ensures exact { P.refusals patterns.new ≡ refused_by (P.refusals patterns.old) result }
     ensures unbuilt { kind ≡ RuleKind.Pattern → P.refusals patterns.new ≡ P.refusals patterns.old }
     ensures plain { ((middle : List ℕ) → IsExpression s.now middle → ⊥) → P.refusals patterns.new ≡ P.refusals patterns.old }
 {
