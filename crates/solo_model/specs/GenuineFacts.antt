@@ -82,7 +82,8 @@ dispatches = Native m.EventTargetDispatchEvent the_window (value.Thing (event 0)
 -- the page makes an event that is cancelable, and prevents it
 abbrev makes_event : ℕ → Mark
 makes_event n =
-    mark.Ask (actor 1) (Native m.NewEvent the_window (value.Str (codes "x") ∷ value.Bool false ∷ value.Bool true ∷ value.Null ∷ [])) (tells (value.Thing (event n)))
+    mark.Ask (actor 1) (Native m.NewEvent the_window (value.Str (codes "x") ∷ value.Bool false ∷ value.Bool true ∷ value.Null ∷ []))
+    (tells (value.Thing (event n)))
 
 abbrev prevents : Mark
 prevents = mark.Ask (actor 1) (Native m.EventPreventDefault (event 0) []) (tells value.Undefined)
@@ -143,7 +144,8 @@ window = value.Thing the_window
 -- a userscript makes an event that carries its own object
 abbrev gives : ℕ → Mark
 gives i =
-    mark.Ask (actor i) (Native m.NewCustomEvent the_window (value.Str (codes "d") ∷ value.Bool false ∷ value.Bool false ∷ own i ∷ [])) (tells (value.Thing (event 0)))
+    mark.Ask (actor i) (Native m.NewCustomEvent the_window (value.Str (codes "d") ∷ value.Bool false ∷ value.Bool false ∷ own i ∷ []))
+    (tells (value.Thing (event 0)))
 
 abbrev looks : ℕ → ℕ → Answer → Mark
 looks i owner a = mark.Ask (actor i) (Peek (actor owner) 301 (codes "k")) a

@@ -1,6 +1,6 @@
 -- Runs, computed by the definitions alone. The expected values are those of the order of tasks, of the project's worked examples, and what Gecko
 -- printed in the cases that say so.
-use Rattle.std.specs.Prelude.{◌≡◌, ℕ, Bool, true, false, List, [], ◌∷◌, ◌++◌, ◌+◌, codes, nat_eq, option_map, if◌then◌else◌, Option, Some, None, pos}
+use Rattle.std.specs.Prelude.{◌≡◌, ℕ, Bool, true, false, List, [], ◌∷◌, ◌++◌, ◌+◌, codes, map, nat_eq, nat_lt, option_map, if◌then◌else◌, Option, Some, None, pos}
 use Rattle.door.specs.declared.values.Actor.{Actor}
 use Rattle.door.specs.declared.values.Kind.TheVariants.{Element, Str as StrKind, Event as EventKind}
 use Rattle.door.specs.declared.values.Shape.TheVariants.{Function}
@@ -28,7 +28,8 @@ use Rattle.dom_semantics.specs.Grants.{no_grants}
 use Rattle.dom_semantics.specs.Things.{thing_of, the_window, the_document}
 use Rattle.dom_semantics.specs.Plays.{Deed, Asks, Sends}
 use Rattle.dom_semantics.specs.SelectorReadingModel.{read_selector}
-use Rattle.solo_model.specs.Given.{Chains, Piece, Userscript, Moment, AtStart, AtEnd, AtIdle, Line, Click, Input, Event, Tick, Given, setting_of}
+use Rattle.dom_semantics.specs.Stores.{are_ascending}
+use Rattle.solo_model.specs.Given.{Chains, Piece, Userscript, Moment, AtStart, AtEnd, AtIdle, Line, Click, Input, Event, Tick, Given, are_apart, is_grant_set, line_number, owners_in, setting_of}
 use Rattle.solo_model.specs.Acts.{setups_of}
 use Rattle.solo_model.specs.Genuine.{IsGenuine}
 use Rattle.solo_model.specs.NextMark.{turn_or_nothing, Exactly, Nothing, IsLawful}
@@ -168,7 +169,8 @@ abbrev pub title_page : Given
 title_page = record given {
   pieces = record {
     writes = creates (codes "html") ∷ appends the_document (element 1) ∷ creates (codes "head") ∷ appends (element 1) (element 2) ∷ creates (codes "title")
-        ∷ appends (element 2) (element 3) ∷ writes_text (codes "Hi") ∷ appends (element 3) (thing_of StrKind 4) ∷ creates (codes "body") ∷ appends (element 1) (element 5) ∷ [];
+        ∷ appends (element 2) (element 3) ∷ writes_text (codes "Hi") ∷ appends (element 3) (thing_of StrKind 4)
+        ∷ creates (codes "body") ∷ appends (element 1) (element 5) ∷ [];
     script = None;
   } ∷ [];
   scripts = script_at (codes "S") AtEnd ∷ [];
@@ -323,6 +325,18 @@ nests i (entry.Script text) = part (listens 1 p (codes "x") 300 ∷ x_event ∷ 
 nests i (entry.Listener place e current) = part (x_event ∷ Sends (e.number + 1) p ∷ [])
 nests i entry = part []
 
+-- ---- what holds of what is given
+
+abbrev are_counted : List Line → Bool
+are_counted lines = are_ascending nat_lt (0 ∷ map line_number lines)
+
+abbrev are_owners_apart : Given → Bool
+are_owners_apart given = are_apart (owners_in given.scripts)
+
+-- two scripts of one name
+abbrev twice : Given
+twice = record given { scripts = script_at (codes "a") AtStart ∷ script_at (codes "a") AtEnd ∷ [] }
+
 pub record RunFacts : Type 0 where
   -- document-start, the pieces, DOMContentLoaded, document-end, load, document-idle, each in the order of file names
   pub moments : tasks_of five_scripts quiet
@@ -377,3 +391,7 @@ pub record RunFacts : Type 0 where
   -- that journal is lawful, and all that it says is true
   pub lawful : IsLawful title_page title_journal
   pub genuine : IsGenuine (setups_of title_page) (setting_of title_page title_journal) title_journal
+  -- lines are counted from 1, upwards; scripts that start share no values; `@grant none` stands alone
+  pub counted : are_counted polling.lines ∷ are_counted (clicks_p 2 ∷ clicks_p 1 ∷ []) ∷ are_counted (clicks_p 0 ∷ []) ∷ [] ≡ true ∷ false ∷ false ∷ []
+  pub apart : are_owners_apart five_scripts ∷ are_owners_apart twice ∷ [] ≡ true ∷ false ∷ []
+  pub alone : is_grant_set (record no_grants { no_grant = true }) ∷ is_grant_set (record logging { no_grant = true }) ∷ [] ≡ true ∷ false ∷ []

@@ -12,4 +12,8 @@ pub use facts::{
     orders_are_computed, runs_are_computed, truths_are_computed, views_are_computed,
     ways_out_are_computed,
 };
-pub use laws::{equal_shows_give_equal_deeds, the_closed_front_is_the_longest};
+pub use laws::{
+    equal_shows_give_equal_deeds, equal_shows_of_a_run_give_equal_deeds, names_tell_what_they_name,
+    reached_machines_act_alone, the_closed_front_is_the_longest,
+    the_closed_front_of_a_run_is_the_longest,
+};

@@ -39,4 +39,7 @@ returns c = record {
   too_many = refl;
   lawful = record { so_far = (refl, (refl, (refl, (refl, (refl, (refl, (refl, (refl, (refl, (refl, (refl, (refl, (refl, (refl, (refl, (refl, (refl, (refl, (refl, (refl, ((refl, tt), (refl, (refl, (refl, (refl, tt))))))))))))))))))))))))); whole = refl };
   genuine = (tt, (refl, (refl, (refl, (refl, (refl, (refl, (refl, (refl, (refl, (refl, (tt, (refl, (record { fits = refl; there = refl; free = refl }, (tt, (tt, (tt, (record { answered = refl; named = refl }, (record { answered = refl; named = refl }, (record { answered = refl; named = refl }, (tt, (tt, (refl, (record { fits = refl; there = refl; free = refl }, (tt, tt)))))))))))))))))))))))));
+  counted = refl;
+  apart = refl;
+  alone = refl;
 }
