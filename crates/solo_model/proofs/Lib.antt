@@ -6,3 +6,6 @@ pub mod Meets
 pub mod Fronts
 pub mod FirstFaults
 pub mod OneEntry
+pub mod OneName
+pub mod Growing
+pub mod Alone

@@ -6,7 +6,7 @@ use Rattle.solo_model.specs.View.{Seen, Entered, Asked, Said, Returned}
 use Rattle.solo_model.specs.Solo.{Show, Enters, Answers, Backs, Deed, Requests, Says, IsSoloFrom, deeds_of, shows_of}
 use Rattle.solo_model.specs.Reaches.{Reaches}
 
-told_then : {M : Type 0} (entering : Entering M) (act : Act) (levels : ℕ) (m : M) (back : M → Answer → Program M) (shows : List Show) (deeds : List Deed) → IsSoloFrom entering (Awaits levels m back) shows deeds
+pub told_then : {M : Type 0} (entering : Entering M) (act : Act) (levels : ℕ) (m : M) (back : M → Answer → Program M) (shows : List Show) (deeds : List Deed) → IsSoloFrom entering (Awaits levels m back) shows deeds
     → IsSoloFrom entering (Runs (Emits act levels m back)) shows (Says act ∷ deeds)
 unfolding IsSoloFrom
 told_then entering act levels m back [] deeds a = (deeds, refl, a)

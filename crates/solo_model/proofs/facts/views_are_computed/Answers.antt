@@ -1,0 +1,30 @@
+use Rattle.std.proofs.Common.{refl}
+use Rattle.std.specs.Char.{encode_utf8}
+use Rattle.std.specs.Fmt.{digits}
+use Rattle.js_semantics.specs.Intrinsics.{fresh}
+use Rattle.solo_model.specs.ActorView.{view_from}
+use Rattle.solo_model.specs.ViewDeeds.{deeds_of, shows_of}
+use Rattle.solo_model.proofs.facts.views_are_computed.Goals as goal
+
+pub returns : goal.returns
+unfolding encode_utf8 digits fresh view_from deeds_of shows_of
+returns c = record {
+  keys = refl;
+  value = refl;
+  accessor = refl;
+  function = refl;
+  hidden = refl;
+  missing = refl;
+  array = refl;
+  item = refl;
+  length = refl;
+  array_hidden = refl;
+  array_keys = refl;
+  opaque = refl;
+  view = refl;
+  owner_view = refl;
+  other_view = refl;
+  same_deeds = refl;
+  their_deeds = refl;
+  refused_shows = refl;
+}
