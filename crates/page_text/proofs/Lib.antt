@@ -1,6 +1,8 @@
 pub mod Encoded
 pub mod Names
 pub mod Once
+pub mod PageFacts
+pub mod PageParts
 pub mod PrintedParts
 pub mod Reading
 pub mod Scanning

@@ -4,6 +4,7 @@ pub mod Grammar
 pub mod Nodes
 pub mod Outcomes
 pub mod Page
+pub mod PageFacts
 pub mod PageFaults
 pub mod PageGrammar
 pub mod PageNodes
