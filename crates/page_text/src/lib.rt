@@ -25,7 +25,7 @@ mod values;
 mod worked_tests;
 mod writes;
 
-pub use facts::some_pages_are_spelled_so;
+pub use facts::{parts_of_a_page_have_one_reading, some_pages_are_spelled_so};
 pub use faults::{PageFault, PageKind};
 pub use pieces::Piece;
 pub use printing::{a_node_is_printed_whole, print};
