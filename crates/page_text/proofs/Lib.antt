@@ -1,6 +1,14 @@
 pub mod Encoded
 pub mod Names
 pub mod Once
+pub mod PageDocumentsOnce
+pub mod PageFacts
+pub mod PageJoined
+pub mod PageNodesOnce
+pub mod PageParts
+pub mod PageTagParts
+pub mod PageTagsOnce
+pub mod PageValues
 pub mod PrintedParts
 pub mod Reading
 pub mod Scanning

@@ -4,6 +4,13 @@ pub mod Grammar
 pub mod Nodes
 pub mod Outcomes
 pub mod Page
+pub mod PageFacts
+pub mod PageFaults
+pub mod PageGrammar
+pub mod PageNodes
+pub mod PageOpen
+pub mod PageSpelling
+pub mod PageTags
 pub mod Pieces
 pub mod Printed
 pub mod Reads

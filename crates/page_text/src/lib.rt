@@ -4,6 +4,7 @@
 #[cfg(test)]
 mod builds;
 mod elements;
+mod facts;
 mod faults;
 mod front;
 #[cfg(test)]
@@ -24,6 +25,7 @@ mod values;
 mod worked_tests;
 mod writes;
 
+pub use facts::{parts_of_a_page_have_one_reading, some_pages_are_spelled_so};
 pub use faults::{PageFault, PageKind};
 pub use pieces::Piece;
 pub use printing::{a_node_is_printed_whole, print};
