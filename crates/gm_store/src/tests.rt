@@ -1,6 +1,6 @@
 //! Texts of the stored form and what they keep, from this project's documents, RFC 8259 and the
 //! behaviour of `serde_json`; and that each call succeeds.
-ghost use Rattle.gm_store.specs.Limits.{IsShort};
+ghost use Rattle.gm_store.specs.Limits.{IsShort, KeptFits};
 ghost use Rattle.std.specs.Prelude.{IfOk};
 
 mod limits;
@@ -11,6 +11,7 @@ mod refused;
 use crate::{Kept, SetFault, StoreFault, StoreKind, Stores};
 use base_text::{OrMemory, Text};
 use std::alloc::Global;
+use std::process::Abort;
 use std::test::Fail;
 
 /// The bytes are no JSON text.
@@ -62,38 +63,97 @@ fn count_beside(alloc: Global, stores: &Stores, entry: Entry) -> Result<usize, F
     )
 }
 
+/// Sets a value.
+fn set(
+    alloc: Global,
+    stores: &mut Stores,
+    at: (&str, &str, &str),
+    value: Kept,
+) -> Result<Option<SetFault>, Fail>
+    requires { KeptFits value }
+{
+    let namespace = text(alloc, at.0)?;
+    let name = text(alloc, at.1)?;
+    let key = text(alloc, at.2)?;
+    Ok(stores.set(&namespace, &name, &key, value).err())
+}
+
+/// Deletes a value, and answers whether it was there.
+fn delete(alloc: Global, stores: &mut Stores, at: (&str, &str, &str)) -> Result<bool, Fail> {
+    let namespace = text(alloc, at.0)?;
+    let name = text(alloc, at.1)?;
+    let key = text(alloc, at.2)?;
+    Ok(stores.delete(&namespace, &name, &key))
+}
+
+/// Whether a script has exactly these names, in this order.
+fn has_names(
+    alloc: Global,
+    stores: &Stores,
+    namespace: &str,
+    name: &str,
+    expected: &[&str],
+) -> Result<bool, Fail> {
+    let names = stores.names(&text(alloc, namespace)?, &text(alloc, name)?)?;
+    Ok(
+        names.len() == expected.len()
+            && names
+                .iter()
+                .zip(expected)
+                .all(|(found, one)| found.as_str() == *one),
+    )
+}
+
+/// Whether the stores are written as this text, which is loaded again as the same.
+fn is_written(alloc: Global, stores: &Stores, expected: &str) -> Result<bool, Fail> {
+    let once = stores.text()?;
+    let twice = Stores::load(alloc, expected.as_bytes())?.text()?;
+    Ok(once.as_slice() == expected.as_bytes() && twice.as_slice() == expected.as_bytes())
+}
+
+const EMPTY: &str = r#"{"form":1,"stores":[]}"#;
+
+const LEFT: &str =
+    r#"{"form":1,"stores":[{"name":"a","namespace":"","values":{"k":1}},{"name":"b","namespace":"n","values":{"j":true}}]}"#;
+
+fn fill(rt: &impl Abort, alloc: Global, stores: &mut Stores) -> Result<(), Fail> {
+    assert!(rt; is_written(alloc, stores, EMPTY)?);
+    let x = text(alloc, "x")?;
+    assert!(rt; set(alloc, stores, ("", "a", "k"), Kept::Number(1))?.is_none());
+    assert!(rt; set(alloc, stores, ("n", "b", "k"), Kept::Str(x))?.is_none());
+    assert!(rt; set(alloc, stores, ("n", "b", "j"), Kept::Bool(true))?.is_none());
+    assert!(rt; has_names(alloc, stores, "n", "b", ["j", "k"].as_slice())?);
+    Ok(())
+}
+
+fn delete_one(rt: &impl Abort, alloc: Global, stores: &mut Stores) -> Result<(), Fail> {
+    for (at, stood) in [
+        (("n", "b", "k"), true),
+        (("n", "b", "k"), false),
+        (("n", "a", "k"), false),
+        (("b", "a", "k"), false),
+    ] {
+        assert_eq!(rt; delete(alloc, stores, at)?, stood);
+    }
+    assert!(rt; keeps(alloc, stores, ("", "a", "k", Plain::Number(1)))?);
+    assert!(rt; has_names(alloc, stores, "n", "b", ["j"].as_slice())?);
+    assert!(rt; has_names(alloc, stores, "n", "a", [].as_slice())?);
+    assert!(rt; is_written(alloc, stores, LEFT)?);
+    Ok(())
+}
+
+fn delete_all(rt: &impl Abort, alloc: Global, stores: &mut Stores) -> Result<(), Fail> {
+    assert!(rt; delete(alloc, stores, ("", "a", "k"))?);
+    assert!(rt; delete(alloc, stores, ("n", "b", "j"))?);
+    assert!(rt; is_written(alloc, stores, EMPTY)?);
+    Ok(())
+}
+
 /// The members of two scripts are told apart, set and deleted.
 #[test]
 fn two_scripts(rt: HostRuntime) -> Result<(), Fail> {
-    let alloc = rt.alloc();
-    let mut stores = Stores::new(alloc);
-    assert!(rt; stores.text()?.as_slice() == b"{\"form\":1,\"stores\":[]}".as_slice());
-    let none = text(alloc, "")?;
-    let a = text(alloc, "a")?;
-    let b = text(alloc, "b")?;
-    let n = text(alloc, "n")?;
-    let k = text(alloc, "k")?;
-    let j = text(alloc, "j")?;
-    assert!(rt; stores.get(&none, &a, &k).is_none());
-    stores.set(&none, &a, &k, Kept::Number(1))?;
-    stores.set(&n, &b, &k, Kept::Str(text(alloc, "x")?))?;
-    stores.set(&n, &b, &j, Kept::Bool(true))?;
-    assert_eq!(rt;
-        stores.names(&n, &b)?.as_slice(),
-        [text(alloc, "j")?, text(alloc, "k")?].as_slice()
-    );
-    assert!(rt; stores.delete(&n, &b, &k));
-    assert!(rt; !stores.delete(&n, &b, &k));
-    assert!(rt; !stores.delete(&n, &a, &k) && !stores.delete(&b, &a, &k));
-    assert!(rt; keeps(alloc, &stores, ("", "a", "k", Plain::Number(1)))?);
-    assert!(rt; stores.get(&n, &b, &k).is_none());
-    assert_eq!(rt; stores.names(&n, &b)?.len(), 1);
-    assert_eq!(rt; stores.names(&n, &a)?.len(), 0);
-    let saved =
-        b"{\"form\":1,\"stores\":[{\"name\":\"a\",\"namespace\":\"\",\"values\":{\"k\":1}},{\"name\":\"b\",\"namespace\":\"n\",\"values\":{\"j\":true}}]}".as_slice();
-    assert!(rt; stores.text()?.as_slice() == saved);
-    assert!(rt; Stores::load(alloc, saved)?.text()?.as_slice() == saved);
-    assert!(rt; stores.delete(&none, &a, &k) && stores.delete(&n, &b, &j));
-    assert!(rt; stores.text()?.as_slice() == b"{\"form\":1,\"stores\":[]}".as_slice());
-    Ok(())
+    let mut stores = Stores::new(rt.alloc());
+    fill(&rt, rt.alloc(), &mut stores)?;
+    delete_one(&rt, rt.alloc(), &mut stores)?;
+    delete_all(&rt, rt.alloc(), &mut stores)
 }

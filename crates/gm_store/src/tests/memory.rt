@@ -43,20 +43,36 @@ fn set_again(alloc: Global, stores: &mut Stores, at: (&str, &str, &str)) -> Resu
     }
 }
 
+/// The faults of texts of another shape and of no JSON.
+#[test]
+fn one_failed_allocation_changes_no_fault(rt: HostRuntime) {
+    let alloc = rt.alloc();
+    for (bytes, fault) in [
+        (b"{\"form\":1,\"stores\":[1]}".as_slice(), BAD_SHAPE),
+        (b"{\"form\":1,\"stores\":[1]".as_slice(), NOT_JSON),
+    ] {
+        assert_eq!(rt; loaded_again(alloc, bytes).err(), Some(fault));
+    }
+}
+
+fn names_again(alloc: Global, stores: &Stores) -> Result<usize, Fail> {
+    let namespace = text_again(alloc, "")?;
+    let name = text_again(alloc, "a")?;
+    match stores.names(&namespace, &name) {
+        Err(_) => Ok(stores.names(&namespace, &name)?.len()),
+        Ok(names) => Ok(names.len()),
+    }
+}
+
+const READ: &str = r#"{"form":1,"stores":[{"name":"a","namespace":"","values":{"k":1,"j":"x"}}]}"#;
+
+const WRITTEN: &str =
+    r#"{"form":1,"stores":[{"name":"a","namespace":"","values":{"i":2,"j":"x","k":2}},{"name":"b","namespace":"","values":{"k":2}},{"name":"a","namespace":"n","values":{"k":2}}]}"#;
+
 #[test]
 fn one_failed_allocation_changes_no_answer(rt: HostRuntime) -> Result<(), Fail> {
     let alloc = rt.alloc();
-    let bytes =
-        b"{\"form\":1,\"stores\":[{\"name\":\"a\",\"namespace\":\"\",\"values\":{\"k\":1,\"j\":\"x\"}}]}".as_slice();
-    assert_eq!(rt;
-        loaded_again(alloc, b"{\"form\":1,\"stores\":[1]}".as_slice()).err(),
-        Some(BAD_SHAPE)
-    );
-    assert_eq!(rt;
-        loaded_again(alloc, b"{\"form\":1,\"stores\":[1]".as_slice()).err(),
-        Some(NOT_JSON)
-    );
-    let mut stores = loaded_again(alloc, bytes)?;
+    let mut stores = loaded_again(alloc, READ.as_bytes())?;
     for at in [
         ("", "a", "k"),
         ("", "a", "i"),
@@ -65,14 +81,7 @@ fn one_failed_allocation_changes_no_answer(rt: HostRuntime) -> Result<(), Fail> 
     ] {
         set_again(alloc, &mut stores, at)?;
     }
-    let (none, a) = (text_again(alloc, "")?, text_again(alloc, "a")?);
-    let names = match stores.names(&none, &a) {
-        Err(_) => stores.names(&none, &a)?,
-        Ok(names) => names,
-    };
-    assert_eq!(rt; names.len(), 3);
-    let one =
-        b"{\"form\":1,\"stores\":[{\"name\":\"a\",\"namespace\":\"\",\"values\":{\"i\":2,\"j\":\"x\",\"k\":2}},{\"name\":\"b\",\"namespace\":\"\",\"values\":{\"k\":2}},{\"name\":\"a\",\"namespace\":\"n\",\"values\":{\"k\":2}}]}".as_slice();
-    assert!(rt; written_again(&stores)?.as_slice() == one);
+    assert_eq!(rt; names_again(alloc, &stores)?, 3);
+    assert!(rt; written_again(&stores)?.as_slice() == WRITTEN.as_bytes());
     Ok(())
 }
