@@ -4,15 +4,15 @@ ghost use Rattle.std.specs.Prelude.{◌≡◌, ◌<◌, ◌≤◌, ◌^◌, Matc
 ghost use Rattle.std.specs.String.{string_bytes};
 ghost use Rattle.base_text.specs.Scalars.{utf8_len};
 ghost use Rattle.base_text.specs.declared.text.TheConstants.{TEXT_LIMIT};
-ghost use Rattle.dom_semantics.specs.Forest.{child_text, form_at, in_order, is_tagged, own_text};
-ghost use Rattle.dom_semantics.specs.Titles.{first_tagged, title_element, title_of, title_refusal, titled};
+ghost use Rattle.dom_semantics.specs.Forest.{child_text, form_at, is_tagged, own_text};
+ghost use Rattle.dom_semantics.specs.Titles.{title_element, title_of, title_refusal, titled};
 ghost use Rattle.dom_semantics.specs.Whitespace.{collapsed, is_white_space};
 ghost use Rattle.dom_semantics.specs.Changes.{text_refusal, with_text};
 ghost use Rattle.small_eval.specs.Heads.{IsHeaded};
 ghost use Rattle.small_eval.specs.Words.{Reads, begun_by, kept, spaced};
 
 use base_text::{Mem, NoMemory, Text, TextFault};
-use dom_tree::{NodeForm, NodeId, TREE_LEVELS, Tree, TreeFault};
+use dom_tree::{NodeForm, NodeId, Tree, TreeFault};
 use door::{Actor, ErrorKind};
 use std::alloc::Global;
 
@@ -72,31 +72,11 @@ fn push_all(words: &mut Words, text: &Text) -> Mem<()>
     Ok(())
 }
 
-/// The title element at or below a node, of so many levels: the first in tree order.
-fn first_title(tree: &Tree, node: u32, levels: u32) -> Option<u32>
-    requires { node < length tree.now }
-    ensures found { result ≡ first_tagged (codes "title") tree.now (in_order levels tree.now node) }
-    ensures known { IfSome result (λ n. n < length tree.now) }
+fn is_title(tree: &Tree, node: NodeId) -> bool
+    requires { node.0 < length tree.now }
+    ensures { result ≡ is_tagged (codes "title") (form_at tree.now node.0) }
 {
-    if levels == 0 {
-        return None;
-    }
-    if is_title(tree, node) {
-        return Some(node);
-    }
-    for child in tree.children(NodeId(node)) {
-        if let Some(found) = first_title(tree, *child, levels - 1) {
-            return Some(found);
-        }
-    }
-    None
-}
-
-fn is_title(tree: &Tree, node: u32) -> bool
-    requires { node < length tree.now }
-    ensures { result ≡ is_tagged (codes "title") (form_at tree.now node) }
-{
-    match tree.form(NodeId(node)) {
+    match tree.form(node) {
         Some(NodeForm::Element(tag)) => tag.as_str() == "title",
         _ => false,
     }
@@ -108,7 +88,10 @@ pub fn title_element(tree: &Tree) -> Option<u32>
     ensures known { IfSome result (λ n. n < length tree.now) }
 {
     let _some = tree.count();
-    first_title(tree, 0, TREE_LEVELS)
+    match tree.find(NodeId(0), |n| is_title(tree, n)) {
+        Some(title) => Some(title.0),
+        None => None,
+    }
 }
 
 /// The document's title, stripped and collapsed, or the empty text where there is no title element.
