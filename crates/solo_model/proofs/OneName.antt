@@ -3,7 +3,6 @@ use Rattle.std.proofs.Common.{◌≡◌, ◌∙◌, ◌+◌, ◌||◌, ap, arith
 use Rattle.std.specs.List.{list_any, position_or_len}
 use Rattle.std.proofs.lemmas.Bool.{and_parts, eqb-true}
 use Prim.Native.Nat.{zero, suc}
-use Rattle.door.specs.declared.values.Actor.{Actor}
 use Rattle.door.specs.declared.values.Kind.{Kind}
 use Rattle.door.specs.declared.values.Kind.TheVariants.{Window, Document, Element, Str as StrKind, Comment, Event}
 use Rattle.door.specs.declared.values.Thing.{Thing}

@@ -8,7 +8,6 @@ use Rattle.door.specs.declared.values.Shape.TheVariants as shape
 use Rattle.door.specs.declared.values.Thing.{Thing}
 use Rattle.door.specs.declared.values.Value.{Value}
 use Rattle.door.specs.declared.values.Value.TheVariants as value
-use Rattle.door.specs.declared.members.Member.{Member}
 use Rattle.door.specs.declared.members.Member.TheVariants as m
 use Rattle.door.specs.declared.requests.Request.{Request}
 use Rattle.door.specs.declared.requests.Request.TheVariants.{Native, Peek, Reach}
@@ -30,13 +29,12 @@ use Rattle.dom_semantics.specs.Things.{thing_of, the_window, the_document}
 use Rattle.dom_semantics.specs.Stage.{Stage, Setting}
 use Rattle.dom_semantics.specs.StageOf.{stage_of}
 use Rattle.dom_semantics.specs.TargetReplies.{dispatch_refusal}
-use Rattle.solo_model.specs.Given.{Given, Userscript, AtEnd, setting_of, zone_of}
+use Rattle.solo_model.specs.Given.{Given, AtEnd, setting_of, zone_of}
 use Rattle.solo_model.specs.Nesting.{Running, Returning, progress_of}
-use Rattle.solo_model.specs.NextMark.{Exactly, ByActor, ByReturn, Nothing, Allows, IsReturn, MayEnd, next_of}
+use Rattle.solo_model.specs.NextMark.{Exactly, ByActor, Nothing, Allows, IsReturn, MayEnd, next_of}
 use Rattle.solo_model.specs.Openings.{has_opened}
 use Rattle.solo_model.specs.Acts.{Setups, setups_of}
 use Rattle.solo_model.specs.MarkValues.{may_name_all}
-use Rattle.solo_model.specs.Naming.{Object}
 use Rattle.solo_model.specs.Genuine.{IsTrueAfter, IsFitLook, has_xray, true_answer}
 use Rattle.solo_model.specs.WaysOut.{IsWayOut}
 use Rattle.solo_model.specs.RunFacts.{actor, element, event, appends, back, script_at, title_page, title_journal}
@@ -157,6 +155,9 @@ IsTrueIn marks mark = IsTrueAfter setups (setting_of company []) marks mark
 abbrev names : List Mark → ℕ → ℕ → Bool
 names marks i owner = may_name_all (zone_of company) marks (actor i) (record { owner = actor owner; place = 301 } ∷ [])
 
+abbrev serves : ℕ → ℕ → Value → Mark
+serves i owner v = mark.Serve (actor i) (actor owner) v (serve.Get (codes "k"))
+
 abbrev reaches : ℕ → ReachOp → Answer → Mark
 reaches i operation a = mark.Ask (actor i) (Reach operation) a
 
@@ -231,6 +232,10 @@ pub record GenuineFacts : Type 0 where
   pub no_cell_of_the_host : IsFitLook (stage_at 0) (actor 2) (Peek (actor 1) 301 (codes "k")) (tells (value.Cell the_host 9 shape.Plain false)) → ⊥
   -- an object of another closed script is named where its owner gave it away; of the page's this isn't asked
   pub named : names [] 2 3 ∷ names (gives 3 ∷ []) 2 3 ∷ names (gives 2 ∷ []) 2 3 ∷ names [] 2 1 ∷ names [] 3 3 ∷ [] ≡ false ∷ true ∷ false ∷ true ∷ true ∷ []
+  -- a service is asked of another actor, on what is that one's
+  pub served : IsTrueIn [] (serves 2 1 (of_page 5))
+  pub not_on_itself : IsTrueIn [] (serves 2 2 (own 2)) → ⊥
+  pub not_of_it : IsTrueIn [] (serves 2 1 (own 2)) → ⊥
 
 -- how ways out are answered, and what they open
 pub record WaysOutFacts : Type 0 where

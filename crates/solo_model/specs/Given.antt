@@ -1,5 +1,5 @@
 -- What a run is given, as plain lists; this project's own in form.
-use Rattle.std.specs.Prelude.{◌≡◌, ◌+◌, ◌&&◌, ◌||◌, ℕ, Bool, true, false, not, List, [], ◌∷◌, map, nat_lt, filter, if◌then◌else◌, Option, is_some}
+use Rattle.std.specs.Prelude.{◌≡◌, ◌+◌, ◌&&◌, ◌||◌, ℕ, Bool, true, not, List, [], ◌∷◌, map, nat_lt, filter, if◌then◌else◌, Option, is_some}
 use Rattle.std.specs.List.{list_all, list_any}
 use Rattle.std.specs.Option.{option_map_or}
 use Prim.Native.Nat.{zero, suc}

@@ -1,5 +1,5 @@
 -- The values that marks carry, and when a mark may name another's object; this project's own.
-use Rattle.std.specs.Prelude.{◌&&◌, ◌||◌, ℕ, Bool, true, false, not, List, [], ◌∷◌, ◌++◌}
+use Rattle.std.specs.Prelude.{◌&&◌, ◌||◌, ℕ, Bool, false, not, List, [], ◌∷◌}
 use Rattle.std.specs.List.{flat_map, list_all, list_any}
 use Rattle.door.specs.declared.values.Actor.{Actor}
 use Rattle.door.specs.declared.values.Value.{Value}

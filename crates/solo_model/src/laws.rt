@@ -5,8 +5,9 @@ ghost use Rattle.std.specs.List.{list_any};
 ghost use Rattle.dom_semantics.specs.Things.{is_thing};
 ghost use Rattle.door.specs.declared.marks.Mark.{Mark};
 ghost use Rattle.door.specs.declared.requests.Answer.{Answer};
+ghost use Rattle.js_semantics.specs.Entries.{enters};
 ghost use Rattle.js_semantics.specs.Machine.{Machine};
-ghost use Rattle.js_semantics.specs.Solo.{Program, State, Awaits, Entering};
+ghost use Rattle.js_semantics.specs.Solo.{Program, State, Awaits};
 ghost use Rattle.solo_model.specs.ActorView.{Seen};
 ghost use Rattle.solo_model.specs.MachineStates.{Reaches};
 ghost use Rattle.door.specs.declared.values.Actor.{Actor};
@@ -65,6 +66,6 @@ pub fn names_tell_what_they_name()
 /// Where an actor's view has led its machine to its waiting, as it has where a look at its objects is true, the
 /// actor's deeds are what the machine does by itself.
 pub fn reached_machines_act_alone()
-    ensures { (entering : Entering Machine) (from : State Machine) (levels : ℕ) (m : Machine) (back : Machine → Answer → Program Machine) (seen : List Seen)
-        → Reaches entering from seen (Awaits levels m back) → IsSoloFrom entering from (view.shows_of seen) (view.deeds_of seen) }
+    ensures { (from : State Machine) (levels : ℕ) (m : Machine) (back : Machine → Answer → Program Machine) (seen : List Seen)
+        → Reaches enters from seen (Awaits levels m back) → IsSoloFrom enters from (view.shows_of seen) (view.deeds_of seen) }
 {}

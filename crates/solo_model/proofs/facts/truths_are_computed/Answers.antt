@@ -76,4 +76,7 @@ returns c = record {
   not_shown = λ h. true≢false (sym h.answered.1.denied);
   no_cell_of_the_host = λ h. true≢false (sym h.fits);
   named = refl;
+  served = record { other = refl; owned = refl; there = refl; keys = refl; named = refl };
+  not_on_itself = λ h. true≢false h.other;
+  not_of_it = λ h. true≢false (sym h.owned);
 }
