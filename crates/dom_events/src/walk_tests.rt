@@ -46,20 +46,16 @@ type Call = (u32, u32, Thing);
 
 /// What a callback does.
 #[derive(Clone, Copy)]
-enum Act<'a> {
+enum Act {
     Stop,
     StopNow,
     Add(Heard),
     Remove(Heard),
     /// The same event is dispatched, which is refused.
     Again,
-    /// Another event is dispatched at a thing, with these calls.
-    Other(Thing, &'a [Call]),
+    /// Another event is dispatched at a thing, with as many of these calls.
+    Other(Thing, usize, [Call; 3]),
 }
-
-/// An event's target, whether it bubbles, the listeners in the order of adding, what callbacks do, and the calls. What
-/// the callback 0 does is done before the walk.
-type Row<'a> = (Thing, bool, &'a [Heard], &'a [(u32, Act<'a>)], &'a [Call]);
 
 /// The document with html, body, p and a text, one in the other, and outside it a div with a span.
 fn grown(rt: &impl Abort, alloc: Global) -> Result<Tree, Fail> {
@@ -194,7 +190,7 @@ fn play_act(
     tree: &Tree,
     listeners: &mut Listeners,
     events: &mut Events,
-    act: Act<'_>,
+    act: Act,
 ) -> Result<bool, Fail> {
     match act {
         Act::Stop => raise(rt, events, 0, false),
@@ -204,8 +200,9 @@ fn play_act(
         Act::Again => {
             return Ok(begin(rt, alloc, events, tree, 0, P).err() == Some(EventFault::Busy));
         }
-        Act::Other(target, calls) => {
-            return plays_plain(rt, alloc, tree, listeners, events, target, calls);
+        Act::Other(target, count, calls) => {
+            assert!(rt; count <= calls.len());
+            return plays_plain(rt, alloc, tree, listeners, events, target, &calls[..count]);
         }
     }
     Ok(true)
@@ -218,7 +215,7 @@ fn acts(
     tree: &Tree,
     listeners: &mut Listeners,
     events: &mut Events,
-    all: &[(u32, Act<'_>)],
+    all: &[(u32, Act)],
     callback: u32,
 ) -> Result<bool, Fail> {
     for (who, what) in all {
@@ -229,9 +226,18 @@ fn acts(
     Ok(true)
 }
 
-/// Whether a walk goes as its row says.
-fn plays(rt: &impl Abort, alloc: Global, tree: &Tree, row: Row<'_>) -> Result<bool, Fail> {
-    let (target, bubbles, heard, all, calls) = row;
+/// Whether the walk of an event at a target, which may bubble, makes these calls, where these are the listeners in the
+/// order of their adding, and callbacks do this; what the callback 0 does is done before the walk.
+fn plays(
+    rt: &impl Abort,
+    alloc: Global,
+    tree: &Tree,
+    event: (Thing, bool),
+    heard: &[Heard],
+    all: &[(u32, Act)],
+    calls: &[Call],
+) -> Result<bool, Fail> {
+    let (target, bubbles) = event;
     let mut listeners = Listeners::new(alloc);
     let mut events = Events::new(alloc);
     for one in heard {
@@ -249,20 +255,10 @@ fn plays(rt: &impl Abort, alloc: Global, tree: &Tree, row: Row<'_>) -> Result<bo
     Ok(right && due == None && is_at(rt, &events, 0, None))
 }
 
-fn first_wrong(rt: &impl Abort, alloc: Global, rows: &[Row<'_>]) -> Result<usize, Fail> {
-    let tree = grown(rt, alloc)?;
-    for at in 0..rows.len() {
-        if !plays(rt, alloc, &tree, rows[at])? {
-            return Ok(at);
-        }
-    }
-    Ok(rows.len())
-}
-
 #[test]
 fn walks_go_down_and_up(rt: HostRuntime) -> Result<(), Fail> {
     // In the order of adding, which isn't that of the path.
-    let all = [
+    let many = [
         (10, WINDOW, false),
         (9, DOCUMENT, false),
         (6, P, false),
@@ -278,7 +274,7 @@ fn walks_go_down_and_up(rt: HostRuntime) -> Result<(), Fail> {
         (13, DIV, false),
         (14, TEXT, false),
     ];
-    let rows: [Row<'_>; 16] = [
+    let rows: [(Thing, bool, &[Heard], &[(u32, Act)], &[Call]); 16] = [
         (P, true, &[], &[], &[]),
         (P, true, &[(1, P, false)], &[], &[(1, 2, P)]),
         (P, true, &[(1, P, true)], &[], &[(1, 2, P)]),
@@ -292,7 +288,7 @@ fn walks_go_down_and_up(rt: HostRuntime) -> Result<(), Fail> {
         (
             P,
             true,
-            &all,
+            &many,
             &[],
             &[
                 (1, 1, WINDOW),
@@ -310,7 +306,7 @@ fn walks_go_down_and_up(rt: HostRuntime) -> Result<(), Fail> {
         (
             P,
             false,
-            &all,
+            &many,
             &[],
             &[
                 (1, 1, WINDOW),
@@ -331,7 +327,7 @@ fn walks_go_down_and_up(rt: HostRuntime) -> Result<(), Fail> {
         (
             DOCUMENT,
             true,
-            &all,
+            &many,
             &[],
             &[
                 (1, 1, WINDOW),
@@ -340,17 +336,17 @@ fn walks_go_down_and_up(rt: HostRuntime) -> Result<(), Fail> {
                 (10, 3, WINDOW),
             ],
         ),
-        (WINDOW, true, &all, &[], &[(1, 2, WINDOW), (10, 2, WINDOW)]),
+        (WINDOW, true, &many, &[], &[(1, 2, WINDOW), (10, 2, WINDOW)]),
         // Outside the document the path ends at the root.
         (
             SPAN,
             true,
-            &all,
+            &many,
             &[],
             &[(11, 1, DIV), (12, 2, SPAN), (13, 3, DIV)],
         ),
-        (SPAN, false, &all, &[], &[(11, 1, DIV), (12, 2, SPAN)]),
-        (DIV, true, &all, &[], &[(11, 2, DIV), (13, 2, DIV)]),
+        (SPAN, false, &many, &[], &[(11, 1, DIV), (12, 2, SPAN)]),
+        (DIV, true, &many, &[], &[(11, 2, DIV), (13, 2, DIV)]),
         // In the order of adding; an equal one stands once, where it was added first.
         (
             P,
@@ -375,14 +371,19 @@ fn walks_go_down_and_up(rt: HostRuntime) -> Result<(), Fail> {
         ),
         (HTML, true, &[(1, BODY, true), (2, P, false)], &[], &[]),
     ];
-    assert_eq!(rt; first_wrong(&rt, rt.alloc(), &rows)?, rows.len());
+    let alloc = rt.alloc();
+    let tree = grown(&rt, alloc)?;
+    for (target, bubbles, heard, all, calls) in rows {
+        let right = plays(&rt, alloc, &tree, (target, bubbles), heard, all, calls)?;
+        assert!(rt; right, "{calls:?} at {target:?}");
+    }
     Ok(())
 }
 
 #[test]
 fn walks_are_stopped(rt: HostRuntime) -> Result<(), Fail> {
     let two = [(1, P, false), (2, P, false), (3, BODY, false)];
-    let rows: [Row<'_>; 12] = [
+    let rows: [(Thing, bool, &[Heard], &[(u32, Act)], &[Call]); 12] = [
         // The visit goes on, and no other comes.
         (P, true, &two, &[(1, Act::Stop)], &[(1, 2, P), (2, 2, P)]),
         (P, true, &two, &[(2, Act::Stop)], &[(1, 2, P), (2, 2, P)]),
@@ -445,14 +446,19 @@ fn walks_are_stopped(rt: HostRuntime) -> Result<(), Fail> {
         (P, true, &two, &[(0, Act::Stop)], &[]),
         (P, true, &two, &[(0, Act::StopNow)], &[]),
     ];
-    assert_eq!(rt; first_wrong(&rt, rt.alloc(), &rows)?, rows.len());
+    let alloc = rt.alloc();
+    let tree = grown(&rt, alloc)?;
+    for (target, bubbles, heard, all, calls) in rows {
+        let right = plays(&rt, alloc, &tree, (target, bubbles), heard, all, calls)?;
+        assert!(rt; right, "{calls:?} at {target:?}");
+    }
     Ok(())
 }
 
 #[test]
 fn listeners_change_during_a_walk(rt: HostRuntime) -> Result<(), Fail> {
     let (one, two, up) = ((1, P, false), (2, P, false), (3, BODY, false));
-    let rows: [Row<'_>; 16] = [
+    let rows: [(Thing, bool, &[Heard], &[(u32, Act)], &[Call]); 16] = [
         // At this visit: one that was removed isn't called, also where it was added again.
         (P, true, &[one, two], &[(1, Act::Remove(two))], &[(1, 2, P)]),
         (
@@ -542,7 +548,7 @@ fn listeners_change_during_a_walk(rt: HostRuntime) -> Result<(), Fail> {
             P,
             true,
             &[one, up],
-            &[(1, Act::Other(BODY, &[(3, 2, BODY)]))],
+            &[(1, Act::Other(BODY, 1, [(3, 2, BODY); 3]))],
             &[(1, 2, P), (3, 3, BODY)],
         ),
         (
@@ -551,11 +557,16 @@ fn listeners_change_during_a_walk(rt: HostRuntime) -> Result<(), Fail> {
             &[one, two, up],
             &[
                 (1, Act::Stop),
-                (1, Act::Other(P, &[(1, 2, P), (2, 2, P), (3, 3, BODY)])),
+                (1, Act::Other(P, 3, [(1, 2, P), (2, 2, P), (3, 3, BODY)])),
             ],
             &[(1, 2, P), (2, 2, P)],
         ),
     ];
-    assert_eq!(rt; first_wrong(&rt, rt.alloc(), &rows)?, rows.len());
+    let alloc = rt.alloc();
+    let tree = grown(&rt, alloc)?;
+    for (target, bubbles, heard, all, calls) in rows {
+        let right = plays(&rt, alloc, &tree, (target, bubbles), heard, all, calls)?;
+        assert!(rt; right, "{calls:?} at {target:?}");
+    }
     Ok(())
 }

@@ -1,0 +1,6 @@
+pub mod Numbers
+pub mod Readings
+pub mod Shorts
+pub mod Spaces
+pub mod Walks
+pub mod Whole

@@ -1,0 +1,16 @@
+//! Reads the lines of a scenario: which events the host sends, and how far it moves the clock.
+#![tactic(auto)]
+
+mod fault;
+mod fields;
+mod laws;
+mod line;
+mod number;
+mod read;
+#[cfg(test)]
+mod tests;
+
+pub use fault::{EventsFault, EventsKind};
+pub use laws::a_scenario_has_one_reading;
+pub use line::{Line, SCENARIO_LIMIT, TICK_LIMIT};
+pub use read::read_events;
