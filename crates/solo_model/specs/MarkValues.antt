@@ -15,7 +15,8 @@ use Rattle.door.specs.declared.requests.Answer.{Answer}
 use Rattle.door.specs.declared.requests.Answer.TheVariants as answer
 use Rattle.door.specs.declared.marks.Mark.{Mark}
 use Rattle.door.specs.declared.marks.Mark.TheVariants.{Ask}
-use Rattle.dom_semantics.specs.Fits.{is_script, is_short, is_within_limits}
+use Rattle.dom_semantics.specs.Bounds.{is_short}
+use Rattle.dom_semantics.specs.Fits.{is_script, is_within_limits}
 use Rattle.dom_semantics.specs.Stage.{Stage}
 use Rattle.dom_semantics.specs.Things.{is_actor}
 use Rattle.dom_semantics.specs.Truth.{has_value_thing}

@@ -1,8 +1,6 @@
 -- What a request for a way out is answered, as far as its own values decide it (MDN, cloneInto, exportFunction, createObjectIn, waivers; the
 -- texts of the refusals are this project's own).
 use Rattle.std.specs.Prelude.{◌≡◌, ◌⊎◌, ◌≤◌, ◌&&◌, ◌||◌, ℕ, Bool, true, false, not, List, [], ◌∷◌, ◌++◌, codes, length}
-use Rattle.std.specs.List.{list_any}
-use Rattle.std.specs.Str.{bytes_eq}
 use Rattle.door.specs.declared.values.Actor.{Actor}
 use Rattle.door.specs.declared.values.Shape.{Shape}
 use Rattle.door.specs.declared.values.Shape.TheVariants as shape
@@ -14,7 +12,9 @@ use Rattle.door.specs.declared.requests.ReachOp.TheVariants as reach
 use Rattle.door.specs.declared.requests.Answer.{Answer}
 use Rattle.door.specs.declared.requests.Answer.TheVariants.{Value as ValueAnswer, Throw, Stopped}
 use Rattle.dom_semantics.specs.Things.{is_actor, is_thing, the_window}
+use Rattle.dom_semantics.specs.Crossings.{SCOPE_DENIED, is_in, walk_refusals}
 use Rattle.dom_semantics.specs.Fits.{is_function_shape}
+use Rattle.dom_semantics.specs.declared.crossings.TheConstants.{PATH_LIMIT}
 use Rattle.solo_model.specs.Things.{the_page}
 
 -- ---- values
@@ -55,14 +55,6 @@ IsOfPage shape answer = (place : ℕ) × (answer ≡ ValueAnswer (value.Cell the
 
 -- ---- clones
 
--- what a clone is refused for
-abbrev pub walk_faults : List (List ℕ)
-walk_faults = codes "IsFunction" ∷ codes "IsThing" ∷ codes "HasAccessor" ∷ codes "IsForeign" ∷ codes "TooMany" ∷ []
-
--- the longest path that is told
-abbrev pub PATH_LIMIT : ℕ
-PATH_LIMIT = 200
-
 -- the refusal of the value at a path; that of the source itself is empty
 abbrev pub refused_at : List ℕ → List ℕ → Answer
 refused_at fault path = Throw (Crossing (fault ++ (codes " at " ++ path)))
@@ -71,7 +63,7 @@ refused_at fault path = Throw (Crossing (fault ++ (codes " at " ++ path)))
 pub record IsRefusedWithin (way : List ℕ) (answer : Answer) : Type 0 where
   pub fault : List ℕ
   pub rest : List ℕ
-  pub known : list_any (bytes_eq fault) walk_faults ≡ true
+  pub known : is_in walk_refusals fault ≡ true
   pub short : length (way ++ rest) ≤ PATH_LIMIT
   pub same : answer ≡ refused_at fault (way ++ rest)
 
@@ -104,10 +96,10 @@ IsWayOut i (reach.Unwaive v) answer = answer ≡ ValueAnswer (waived false v)
 IsWayOut i reach.UnsafeWindow answer = answer ≡ ValueAnswer (value.WaivedThing the_window)
 IsWayOut i (reach.Export callee scope options) answer =
     Unless (not (is_callable i callee)) (codes "NotCallable") answer (Unless (not (is_own i callee)) (codes "NotOwn") answer
-    (Unless (not (is_scope scope)) (codes "ScopeDenied") answer (IsOfPage shape.Function answer)))
-IsWayOut i (reach.CreateIn scope options) answer = Unless (not (is_scope scope)) (codes "ScopeDenied") answer (IsOfPage shape.Plain answer)
+    (Unless (not (is_scope scope)) SCOPE_DENIED answer (IsOfPage shape.Function answer)))
+IsWayOut i (reach.CreateIn scope options) answer = Unless (not (is_scope scope)) SCOPE_DENIED answer (IsOfPage shape.Plain answer)
 IsWayOut i (reach.Clone source scope options functions reflectors) answer =
-    Unless (not (is_scope scope)) (codes "ScopeDenied") answer (IsClone i source functions reflectors answer)
+    Unless (not (is_scope scope)) SCOPE_DENIED answer (IsClone i source functions reflectors answer)
 
 -- one that is stopped says nothing of its values
 abbrev pub IsWayOutOrStopped : Actor → ReachOp → Answer → Type 0
