@@ -1,0 +1,2 @@
+pub mod SlotsModel
+pub mod Heaps
