@@ -52,3 +52,25 @@ pub(crate) fn reserve(owners: &mut Vec<Owner>, owner: Actor, alloc: Global) -> M
     }
     Ok(())
 }
+
+/// The prototype that was set.
+pub(crate) fn standard_among(standards: &[Settled], standard: Standard) -> Option<CellId> {
+    for settled in standards {
+        if settled.standard == standard {
+            return Some(settled.cell);
+        }
+    }
+    None
+}
+
+/// Sets a prototype.
+pub(crate) fn settle(standards: &mut Vec<Settled>, standard: Standard, cell: CellId) -> Mem<()> {
+    for settled in standards.iter_mut() {
+        if settled.standard == standard {
+            settled.cell = cell;
+            return Ok(());
+        }
+    }
+    standards.push(Settled { standard, cell })?;
+    Ok(())
+}
