@@ -1,6 +1,7 @@
 pub mod Primitives
 pub mod Builtin
 pub mod Machine
+pub mod DoorValues
 pub mod Places
 pub mod Faults
 pub mod Properties

@@ -8,7 +8,7 @@ use Rattle.door.specs.declared.values.Kind.{Kind as ThingKind}
 use Rattle.door.specs.declared.values.Kind.TheVariants.{Window, Document, Element, Str as StrThing, Comment, Event}
 use Rattle.door.specs.declared.requests.ErrorKind.{ErrorKind}
 use Rattle.js_semantics.specs.Primitives.{Undefined, Null, BoolPrim, NumberPrim, StrPrim, key_of}
-use Rattle.js_semantics.specs.Machine.{Machine, Cell, MetThing, Reference, Own, Thing, Foreign, Value, Primitive, Refers, Property, Datum, Accessor, cell_at, with_cell, thing_at, with_thing, undefined, text, count}
+use Rattle.js_semantics.specs.Machine.{Machine, Cell, MetThing, Reference, Own, Thing, Value, Primitive, Refers, Property, Datum, Accessor, cell_at, with_cell, thing_at, with_thing, undefined, text, count}
 use Rattle.js_semantics.specs.Places.{STRING_PROTOTYPE, NUMBER_PROTOTYPE, BOOLEAN_PROTOTYPE, WINDOW_PROTOTYPE, DOCUMENT_PROTOTYPE, ELEMENT_PROTOTYPE, CHARACTER_DATA_PROTOTYPE, EVENT_PROTOTYPE}
 use Rattle.js_semantics.specs.Properties.{own_of, own_keys, defined_of, removed_of, property_in, defined_in, removed_in, keys_in, place_spelled, length_key}
 use Rattle.js_semantics.specs.Solo.{Stuck}
@@ -29,7 +29,7 @@ own_of_thing (Some thing) key = property_in thing.slots key
 abbrev pub own_property : Machine → Reference → List ℕ → Option Property
 own_property m (Own place) key = own_of_cell (cell_at m place) key
 own_property m (Thing k) key = own_of_thing (thing_at m k) key
-own_property m (Foreign k) key = None
+own_property m r key = None
 
 -- the prototype of the interface that a thing has (Web IDL, interface prototype object)
 abbrev pub interface_prototype : ThingKind → ℕ
@@ -52,13 +52,13 @@ prototype_of_thing (Some thing) = Some (Own (interface_prototype thing.kind))
 abbrev pub prototype_of : Machine → Reference → Option Reference
 prototype_of m (Own place) = prototype_of_cell (cell_at m place)
 prototype_of m (Thing k) = prototype_of_thing (thing_at m k)
-prototype_of m (Foreign k) = None
+prototype_of m r = None
 
--- what is found along a chain: nothing, a property, or an object of another that the chain comes to
+-- what is found along a chain: nothing, a property, or something of another that the chain comes to
 pub data Found : Type 0 where
   Missing : Found
   Stands : Property → Found
-  Beyond : (k : ℕ) → Found
+  Beyond : Reference → Found
 
 abbrev pub along : Option Property → Option Reference → (Reference → Found) → Found
 along (Some property) next rest = Stands property
@@ -68,8 +68,9 @@ along None (Some next) rest = rest next
 -- a property, from what a reference names along its prototypes, of which so many are looked at (ECMAScript, 10.1.8.1)
 unfoldable pub found_within : ℕ → Machine → Reference → List ℕ → Found
 found_within zero m r key = Missing
-found_within (suc n) m (Foreign k) key = Beyond k
-found_within (suc n) m r key = along (own_property m r key) (prototype_of m r) (λ next. found_within n m next key)
+found_within (suc n) m (Own place) key = along (own_property m (Own place) key) (prototype_of m (Own place)) (λ next. found_within n m next key)
+found_within (suc n) m (Thing k) key = along (own_property m (Thing k) key) (prototype_of m (Thing k)) (λ next. found_within n m next key)
+found_within (suc n) m r key = Beyond r
 
 -- no chain is longer than there are cells and things
 abbrev pub chain_bound : Machine → ℕ
@@ -133,7 +134,7 @@ define_in_thing k key property (Some thing) m f c = c Ends (with_thing m k (reco
 abbrev pub define_row : Reference → List ℕ → Property → Meaning
 define_row (Own place) key property m f c = define_in_cell place key property (cell_at m place) m f c
 define_row (Thing k) key property m f c = define_in_thing k key property (thing_at m k) m f c
-define_row (Foreign k) key property m f c = Stuck
+define_row r key property m f c = Stuck
 
 -- ---- Set
 
@@ -186,7 +187,7 @@ abbrev pub delete_row : Value → List ℕ → Meaning
 delete_row (Primitive prim) key m f c = fails_by wrong_kind c m f
 delete_row (Refers (Own place)) key m f c = delete_in_cell place key (cell_at m place) m f c
 delete_row (Refers (Thing k)) key m f c = delete_in_thing k key (thing_at m k) m f c
-delete_row (Refers (Foreign k)) key m f c = Stuck
+delete_row (Refers r) key m f c = Stuck
 
 abbrev pub keys_of_cell : Option Cell → With (List (List ℕ)) → Rest
 keys_of_cell None k m f = Stuck
@@ -201,7 +202,7 @@ abbrev pub keys_row : Value → With (List (List ℕ)) → Cont → Rest
 keys_row (Primitive prim) k c m f = fails_by wrong_kind c m f
 keys_row (Refers (Own place)) k c m f = keys_of_cell (cell_at m place) k m f
 keys_row (Refers (Thing j)) k c m f = keys_of_thing (thing_at m j) k m f
-keys_row (Refers (Foreign j)) k c m f = Stuck
+keys_row (Refers r) k c m f = Stuck
 
 -- a value as a key; a reference is none (ECMAScript, 7.1.19)
 abbrev pub key_row : Value → With (List ℕ) → Cont → Rest

@@ -7,7 +7,7 @@ use Rattle.base_text.specs.declared.operators.UnaryOp.TheVariants as unary
 use Rattle.js_syntax.specs.declared.tree.UpdateOp.{UpdateOp}
 use Rattle.js_syntax.specs.declared.tree.UpdateOp.TheVariants.{Increment, Decrement}
 use Rattle.js_semantics.specs.Primitives.{PrimitiveValue, StrPrim, NumberPrim, OpFault, binary_of, unary_of, boolean_of}
-use Rattle.js_semantics.specs.Machine.{Machine, Cell, Form, Closure, Native, Reference, Own, Thing, Foreign, Value, Primitive, Refers, cell_at, boolean, text}
+use Rattle.js_semantics.specs.Machine.{Machine, Cell, Form, Closure, Native, Reference, Own, Thing, Foreign, WaivedThing, WaivedForeign, Value, Primitive, Refers, cell_at, boolean, text}
 use Rattle.js_semantics.specs.Faults.{wrong_kind, operator_fault}
 use Rattle.js_semantics.specs.Evaluator.{Gives, Meaning, Evaluator, bind, charge, text_units, fails_by}
 use Rattle.js_semantics.specs.Members.{prototype_of, chain_bound, get_row, has_row, key_row}
@@ -23,6 +23,8 @@ abbrev pub is_same_reference : Reference → Reference → Bool
 is_same_reference (Own p) (Own q) = p == q
 is_same_reference (Thing j) (Thing k) = j == k
 is_same_reference (Foreign j) (Foreign k) = j == k
+is_same_reference (WaivedThing j) (WaivedThing k) = j == k
+is_same_reference (WaivedForeign j) (WaivedForeign k) = j == k
 is_same_reference r s = false
 
 -- references are the same by identity, and no reference is a primitive
