@@ -20,7 +20,7 @@ use Rattle.js_semantics.specs.Machine.{Machine, Refers, Own}
 use Rattle.js_semantics.specs.Solo.{Program, Emits, Stuck, State, Awaits, Leaves, Entering}
 use Rattle.door.specs.declared.limits.TheConstants.{FUEL_LIMIT, LEVEL_LIMIT as CALL_LIMIT}
 use Rattle.js_semantics.specs.Evaluator.{Meaning, bind}
-use Rattle.js_semantics.specs.Requests.{met_row}
+use Rattle.js_semantics.specs.Meetings.{met_row}
 use Rattle.js_semantics.specs.Intrinsics.{Setup, fresh}
 use Rattle.js_semantics.specs.Meaning.{with_level, leave, script_entry, timer_entry}
 

@@ -7,6 +7,8 @@ pub mod Faults
 pub mod Properties
 pub mod Solo
 pub mod Evaluator
+pub mod Meetings
+pub mod Answers
 pub mod Members
 pub mod Forms
 pub mod Bodies
@@ -17,6 +19,15 @@ pub mod Targets
 pub mod Expressions
 pub mod Statements
 pub mod Requests
+pub mod Arguments
+pub mod WindowRequests
+pub mod TargetRequests
+pub mod NodeRequests
+pub mod ElementRequests
+pub mod DocumentRequests
+pub mod EventRequests
+pub mod GmRequests
+pub mod MemberRows
 pub mod Texts
 pub mod Natives
 pub mod Calls

@@ -1,6 +1,7 @@
 -- The built-ins, one row for each (ECMAScript, 20 to 23). Each place, element or key that one copies or moves costs a unit, and so does each
 -- started 64 bytes of a text that it answers (this project's own).
 use Rattle.std.specs.Prelude.{ℕ, Bool, true, false, ◌||◌, ◌==◌, ◌-◌, ◌+◌, List, [], ◌∷◌, ◌++◌, Option, Some, None, length, map, take, drop, reverse, is_some, pos, ℤ, int_div, int_lt, unsigned_abs, codes}
+use Rattle.door.specs.declared.members.Member.TheVariants as member
 use Rattle.js_semantics.specs.Builtin as b
 use Rattle.js_semantics.specs.Builtin.{Builtin}
 use Rattle.js_semantics.specs.Primitives.{Undefined, Null, BoolPrim, NumberPrim, number_of}
@@ -12,7 +13,8 @@ use Rattle.js_semantics.specs.Evaluator.{Gives, Rest, With, Cont, Meaning, Evalu
 use Rattle.js_semantics.specs.Members.{own_property, prototype_of, chain_bound, get_row, has_row, define_row, keys_row, key_row}
 use Rattle.js_semantics.specs.Operations.{to_boolean, is_function, is_above, is_same_reference, answer_row}
 use Rattle.js_semantics.specs.Expressions.{array_cell}
-use Rattle.js_semantics.specs.Requests.{text_argument, number_argument, argument, asks_row}
+use Rattle.js_semantics.specs.Requests.{text_argument, number_argument, argument}
+use Rattle.js_semantics.specs.MemberRows.{asks_row}
 use Rattle.js_semantics.specs.Texts.{text_answer, char_at_row, char_code_at_row, index_of_row, slice_row, substring_row, parts_of, parts_units, replace_row, trim_row, case_row, lower, upper, itself_row, this_text}
 
 -- goes on with a reference; a primitive is of the wrong kind
@@ -285,7 +287,7 @@ native_row ev b.TypeErrorFunction this values m f c = error_row (codes "TypeErro
 native_row ev b.RangeErrorFunction this values m f c = error_row (codes "RangeError") (argument values 0) m f c
 native_row ev b.ReferenceErrorFunction this values m f c = error_row (codes "ReferenceError") (argument values 0) m f c
 native_row ev b.ErrorToString this values m f c = error_text_row ev this m f c
-native_row ev (b.Asks name) this values m f c = asks_row name this values m f c
+native_row ev (b.Asks name) this values m f c = asks_row ev name this values m f c
 native_row ev b.Interface this values m f c = fails_by wrong_kind c m f
 
 -- those that `new` only calls
@@ -296,4 +298,6 @@ makes_objects b.ErrorFunction = true
 makes_objects b.TypeErrorFunction = true
 makes_objects b.RangeErrorFunction = true
 makes_objects b.ReferenceErrorFunction = true
+makes_objects (b.Asks member.NewEvent) = true
+makes_objects (b.Asks member.NewCustomEvent) = true
 makes_objects builtin = false
