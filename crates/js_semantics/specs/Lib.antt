@@ -9,6 +9,7 @@ pub mod Solo
 pub mod Evaluator
 pub mod Meetings
 pub mod Answers
+pub mod Xrays
 pub mod Members
 pub mod Forms
 pub mod Bodies
