@@ -31,7 +31,7 @@ form_of m value = None
 abbrev pub others_called : Use → Cont → Rest
 others_called Refused c = fails_by permission_denied c
 others_called ByOwner c = misfit
-others_called use c = fails_by not_a_function c
+others_called way c = fails_by not_a_function c
 
 -- a value is called (7.3.14); what its owner would have to do isn't built yet
 abbrev pub called_row : Evaluator → Value → Value → List Value → Meaning

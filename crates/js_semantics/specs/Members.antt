@@ -53,7 +53,7 @@ prototype_of_thing (Some thing) = Some (Own (interface_prototype thing.kind))
 
 abbrev pub prototype_by_use : Use → Option Reference
 prototype_by_use (Shows above) = Some (Own above)
-prototype_by_use use = None
+prototype_by_use way = None
 
 -- the prototype, of another's object as far as an Xray shows one (ECMAScript, 10.1.1)
 abbrev pub prototype_of : Machine → Reference → Option Reference
@@ -65,7 +65,7 @@ prototype_of m r = prototype_by_use (use_of m r)
 abbrev pub others_prototype_row : Use → With (Option Reference) → Cont → Rest
 others_prototype_row Refused k c = fails_by permission_denied c
 others_prototype_row ByOwner k c = misfit
-others_prototype_row use k c = k (prototype_by_use use)
+others_prototype_row way k c = k (prototype_by_use way)
 
 abbrev pub prototype_row : Reference → With (Option Reference) → Cont → Rest
 prototype_row (Own place) k c m f = k (prototype_of m (Own place)) m f

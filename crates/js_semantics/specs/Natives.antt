@@ -156,7 +156,7 @@ object_is_array object = option_map_or (λ (it : MetObject). is_shape it.shape s
 abbrev pub others_array : Use → Bool → With Bool → Rest
 others_array (Shows above) is_one k = k is_one
 others_array ByOwner is_one k = misfit
-others_array use is_one k = k false
+others_array way is_one k = k false
 
 -- Array.isArray(x): an own array, or an Xray of one (23.1.2.2)
 abbrev pub is_array_row : Value → With Bool → Rest

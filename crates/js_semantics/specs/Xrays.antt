@@ -45,18 +45,18 @@ use_of m r = ByOwner
 abbrev pub is_by_xray : Use → Bool
 is_by_xray (Shows above) = true
 is_by_xray Opaque = true
-is_by_xray use = false
+is_by_xray way = false
 
 -- its owner does what is done to it
 abbrev pub is_by_owner : Use → Bool
 is_by_owner ByOwner = true
-is_by_owner use = false
+is_by_owner way = false
 
 -- goes on where the actor has properties of its own on the object
 abbrev pub with_expandos : Use → Rest → Cont → Rest
 with_expandos Refused k c = fails_by permission_denied c
 with_expandos ByOwner k c = misfit
-with_expandos use k c = k
+with_expandos way k c = k
 
 abbrev pub expandos_of : Option MetObject → List Slot
 expandos_of object = option_map_or (λ (it : MetObject). it.slots) object []
