@@ -47,3 +47,5 @@ pub mod FormFacts
 pub mod BuiltinFacts
 pub mod TextFacts
 pub mod EntryFacts
+pub mod MemberFacts
+pub mod XrayFacts
