@@ -1,4 +1,4 @@
--- What the members of Document ask for (DOM, 4.5 Interface Document, 4.2.6 Mixin ParentNode; HTML, 3.1 The Document object).
+-- What the members of Document ask for (DOM, Interface Document, Mixin ParentNode; HTML, The Document object).
 use Rattle.std.specs.Prelude.{[], ◌∷◌, Option, Some, None}
 use Rattle.door.specs.declared.members.Member.{Member}
 use Rattle.door.specs.declared.members.Member.TheVariants as member

@@ -1,4 +1,4 @@
--- What the members of Element ask for (DOM, 4.9 Interface Element, 4.2.6 Mixin ParentNode).
+-- What the members of Element ask for (DOM, Interface Element, Mixin ParentNode).
 use Rattle.std.specs.Prelude.{[], ◌∷◌, Option, Some, None}
 use Rattle.door.specs.declared.members.Member.{Member}
 use Rattle.door.specs.declared.members.Member.TheVariants as member

@@ -1,5 +1,5 @@
--- What the constructors of events and the members of Event ask for (DOM, 2.2 Interface Event, 2.4 Interface CustomEvent). The options are read
--- by Get, in the order of the arguments (DOM, 2.5 Constructing events; the order is this project's own).
+-- What the constructors of events and the members of Event ask for (DOM, Interface Event, Interface CustomEvent). The options are read by
+-- Get, in the order of the arguments (DOM, Constructing events; the order is this project's own).
 use Rattle.std.specs.Prelude.{ℕ, List, [], ◌∷◌, Option, Some, None, codes}
 use Rattle.door.specs.declared.values.Value.{Value as DoorValue}
 use Rattle.door.specs.declared.values.Value.TheVariants as door

@@ -219,7 +219,7 @@ interfaces =
     ∷ custom_event
     ∷ []
 
--- from place 93: the members of Window and EventTarget (HTML, 7.2.2, 8.6; DOM, 2.7)
+-- from place 93: the members of Window and EventTarget (HTML, The Window object, Timers; DOM, Interface EventTarget)
 abbrev pub window_members : List Intrinsic
 window_members =
     getter WINDOW_PROTOTYPE (codes "document") member.WindowDocument
@@ -232,7 +232,7 @@ window_members =
     ∷ function EVENT_TARGET_PROTOTYPE (codes "dispatchEvent") (b.Asks member.EventTargetDispatchEvent)
     ∷ []
 
--- from place 101: the members of Node (DOM, 4.4)
+-- from place 101: the members of Node (DOM, Interface Node)
 abbrev pub node_members : List Intrinsic
 node_members =
     getter NODE_PROTOTYPE (codes "nodeType") member.NodeNodeType
@@ -254,7 +254,7 @@ node_members =
     ∷ function NODE_PROTOTYPE (codes "cloneNode") (b.Asks member.NodeCloneNode)
     ∷ []
 
--- from place 118: the members of Element, and those that Document has too (DOM, 4.9, 4.2.6)
+-- from place 118: the members of Element, and those that Document has too (DOM, Interface Element, ParentNode)
 abbrev pub element_members : List Intrinsic
 element_members =
     getter ELEMENT_PROTOTYPE (codes "tagName") member.ElementTagName
@@ -275,7 +275,7 @@ element_members =
     ∷ function DOCUMENT_PROTOTYPE (codes "getElementsByTagName") (b.Asks member.DocumentGetElementsByTagName)
     ∷ []
 
--- from place 134: the other members of Document (DOM, 4.5; HTML, 3.1)
+-- from place 134: the other members of Document (DOM, Interface Document; HTML, The Document object)
 abbrev pub document_members : List Intrinsic
 document_members =
     getter DOCUMENT_PROTOTYPE (codes "documentElement") member.DocumentDocumentElement
@@ -291,7 +291,7 @@ document_members =
     ∷ function DOCUMENT_PROTOTYPE (codes "getElementById") (b.Asks member.DocumentGetElementById)
     ∷ []
 
--- from place 145: the members of Event (DOM, 2.2, 2.4)
+-- from place 145: the members of Event (DOM, Interface Event, Interface CustomEvent)
 abbrev pub event_members : List Intrinsic
 event_members =
     getter EVENT_PROTOTYPE (codes "type") member.EventType

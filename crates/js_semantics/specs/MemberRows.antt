@@ -1,4 +1,4 @@
--- The row of each member, from the file of its interface (Web IDL, 3.7; this project's own in form).
+-- The row of each member, from the file of its interface (Web IDL, Interfaces; this project's own in form).
 use Rattle.std.specs.Prelude.{List, Option, Some, None}
 use Rattle.door.specs.declared.members.Member.{Member}
 use Rattle.js_semantics.specs.Machine.{Value}

@@ -1,4 +1,4 @@
--- What the members of Node ask for (DOM, 4.4 Interface Node).
+-- What the members of Node ask for (DOM, Interface Node).
 use Rattle.std.specs.Prelude.{[], ◌∷◌, Option, Some, None}
 use Rattle.door.specs.declared.members.Member.{Member}
 use Rattle.door.specs.declared.members.Member.TheVariants as member

@@ -1,4 +1,4 @@
--- How a member of the outside is asked for, and what follows its answer (Web IDL, 3.7; Console Standard; Greasemonkey manual). What an answer
+-- How a member of the outside is asked for, and what follows its answer (Web IDL, Interfaces; Console Standard; Greasemonkey manual). What an answer
 -- may be is told by the table of requests.
 use Rattle.std.specs.Prelude.{ℕ, zero, suc, Bool, true, false, ◌&&◌, List, [], ◌∷◌, ◌++◌, nat_lt, ℤ, codes}
 use Rattle.base_text.specs.Scalars.{utf8_len}
@@ -68,7 +68,7 @@ request_row name thing values missing m f c = ask (NativeRequest name thing valu
 
 -- ---- what a member is asked of
 
--- it must be a thing of the interface (Web IDL, 3.7.6)
+-- it must be a thing of the interface (Web IDL, Attributes, Operations)
 abbrev pub of_interface : Receiver → DoorThing → With DoorThing → Cont → Rest
 of_interface receiver thing k c = choose (is_receiver PAGE receiver thing) (k thing) (fails_by wrong_kind c)
 

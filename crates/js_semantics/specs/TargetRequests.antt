@@ -1,4 +1,4 @@
--- What the members of EventTarget ask for (DOM, 2.7). To dispatch an event is no request but an act: others are entered before it comes back.
+-- What the members of EventTarget ask for (DOM, Interface EventTarget). To dispatch an event is no request but an act: others are entered before it comes back.
 use Rattle.std.specs.Prelude.{[], ◌∷◌, Option, Some, None}
 use Rattle.door.specs.declared.values.Thing.{Thing as DoorThing}
 use Rattle.door.specs.declared.members.Member.{Member}

@@ -1,4 +1,4 @@
--- What the members of Window ask for (HTML, 7.2.2 The Window object, 8.6 Timers).
+-- What the members of Window ask for (HTML, The Window object, Timers).
 use Rattle.std.specs.Prelude.{[], ◌∷◌, Option, Some, None}
 use Rattle.door.specs.declared.members.Member.{Member}
 use Rattle.door.specs.declared.members.Member.TheVariants as member

@@ -25,6 +25,7 @@ returns c = record {
   ring = refl;
   defined = refl;
   applied = refl;
+  applied_to_none = refl;
   moved = refl;
   split = refl;
   parts = refl;

@@ -25,11 +25,11 @@ returns c = record {
   expando = refl;
   keys = refl;
   has = refl;
-  opaque = refl;
+  of_error = refl;
   called = refl;
   denied = refl;
   call_denied = refl;
-  instance = refl;
+  instance_of = refl;
   ring = refl;
   misfit = refl;
 }
