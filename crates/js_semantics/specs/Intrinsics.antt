@@ -1,7 +1,7 @@
 -- The cells that each actor begins with, in the order of their places: the built-ins as their table lists them, a constructor directly
 -- followed by its prototype, then the scripts among them and the interfaces, each followed by its prototype, and then the members of the
 -- outside (ECMAScript, 19 to 23; Web IDL, 3.7; the places are this project's own). What isn't built yet takes no place.
-use Rattle.std.specs.Prelude.{ℕ, suc, ◌-◌, ◌+◌, ◌==◌, Bool, true, false, List, [], ◌∷◌, ◌++◌, Option, Some, None, length, replicate, codes, if◌then◌else◌}
+use Rattle.std.specs.Prelude.{ℕ, suc, ◌-◌, ◌+◌, ◌==◌, ◌&&◌, Bool, true, false, List, [], ◌∷◌, ◌++◌, Option, Some, None, length, replicate, codes, if◌then◌else◌}
 use Rattle.door.specs.declared.zones.Zone.{Zone}
 use Rattle.door.specs.declared.zones.Zone.TheVariants.{Page}
 use Rattle.door.specs.declared.grants.GrantSet.{GrantSet}
@@ -16,12 +16,12 @@ use Rattle.js_semantics.specs.Places.{OBJECT_PROTOTYPE, FUNCTION_PROTOTYPE, ARRA
 use Rattle.js_semantics.specs.Machine.{Machine, Cell, Form, Plain, Closure, Native, Reference, Own, Value, Refers, Property, Datum, Accessor, Slot, undefined, text, CELLS, GLOBAL_PLACE, the_window}
 use Rattle.js_semantics.specs.Properties.{property_in, defined_in}
 
--- where a cell is named: by a key of another cell, as a getter or a setter there, or nowhere
+-- where a cell is named: by a key of another cell, as a getter or a setter there, or by a key where it is granted
 pub data Named : Type 0 where
   Under : (holder : ℕ) (key : List ℕ) → Named
   Getter : (holder : ℕ) (key : List ℕ) → Named
   Setter : (holder : ℕ) (key : List ℕ) → Named
-  Nowhere : Named
+  Granted : Bool → (holder : ℕ) (key : List ℕ) → Named
 
 -- a cell that an actor begins with
 pub record Intrinsic : Type 0 where
@@ -78,8 +78,7 @@ location address = record (object GLOBAL_PLACE (codes "location") plain) { slots
 
 -- a function of Greasemonkey is named where it is granted
 abbrev granted : Bool → List ℕ → Member → Intrinsic
-granted true key name = global key (b.Asks name)
-granted false key name = record (global key (b.Asks name)) { named = Nowhere }
+granted is_granted key name = record (global key (b.Asks name)) { named = Granted is_granted GLOBAL_PLACE key }
 
 -- from place 0: Object (20.1)
 abbrev pub objects : List Intrinsic
@@ -328,7 +327,8 @@ abbrev pub named_in : ℕ → ℕ → Named → List Slot → List Slot
 named_in place i (Under holder key) slots = if holder == place then defined_in slots key (Datum (Refers (Own i)) true false) else slots
 named_in place i (Getter holder key) slots = if holder == place then defined_in slots key (Accessor (Some i) None false) else slots
 named_in place i (Setter holder key) slots = if holder == place then defined_in slots key (with_set i (property_in slots key)) else slots
-named_in place i Nowhere slots = slots
+named_in place i (Granted is_granted holder key) slots =
+    if (holder == place) && is_granted then defined_in slots key (Datum (Refers (Own i)) true false) else slots
 
 -- the properties of the cell at a place, in the order of the cells that it names, the first of which has place i
 abbrev pub slots_from : ℕ → ℕ → List Intrinsic → List Slot → List Slot
