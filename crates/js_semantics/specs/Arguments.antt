@@ -1,5 +1,5 @@
--- How the arguments of a member are read, from left to right, before it is asked for (Web IDL, JavaScript type mapping, as far as it is built here). A text is that
--- of a primitive, and nothing else is converted (this project's own).
+-- How the arguments of a member are read, from left to right, before it is asked for (Web IDL, JavaScript type mapping, as far as it is built
+-- here). A text is that of a primitive, and nothing else is converted (this project's own).
 use Rattle.std.specs.Prelude.{Bool, List, [], ◌∷◌, drop, codes}
 use Rattle.door.specs.declared.values.Kind.{Kind as ThingKind}
 use Rattle.door.specs.declared.values.Kind.TheVariants.{Event}

@@ -1,6 +1,6 @@
 -- What is shown to an actor is met: things and objects of others, in the order of meeting (this project's own). A thing that was met keeps its
 -- kind, and an object its owner and shape; what is shown otherwise is no show of a run.
-use Rattle.std.specs.Prelude.{ℕ, zero, suc, Bool, true, false, ◌&&◌, ◌==◌, List, [], ◌∷◌, ◌++◌, Option, Some, None, length, if◌then◌else◌, nat_eq}
+use Rattle.std.specs.Prelude.{ℕ, zero, suc, Bool, false, ◌&&◌, ◌==◌, List, [], ◌∷◌, ◌++◌, Option, Some, None, length, if◌then◌else◌, nat_eq}
 use Rattle.door.specs.Looks.{look_of}
 use Rattle.door.specs.declared.values.Actor.{Actor}
 use Rattle.door.specs.declared.values.TheConstants.{PAGE}

@@ -1,6 +1,6 @@
 -- What a userscript asks for by members of the outside, and the units that it uses, computed by the definitions alone. The window is the first
 -- thing that it has met, so the document is the next; its first own cell has the place 300.
-use Rattle.std.specs.Prelude.{◌≡◌, ℕ, List, [], ◌∷◌, Some, None, true, false, pos, codes}
+use Rattle.std.specs.Prelude.{ℕ, List, [], ◌∷◌, Some, None, true, false, pos, codes}
 use Rattle.door.specs.declared.values.Kind.TheVariants.{Document, Element, Event}
 use Rattle.door.specs.declared.values.Shape.TheVariants as shape
 use Rattle.door.specs.declared.values.Thing.{Thing}
@@ -14,6 +14,7 @@ use Rattle.door.specs.declared.requests.Answer.{Answer}
 use Rattle.door.specs.declared.requests.Answer.TheVariants as answer
 use Rattle.door.specs.declared.marks.Outcome.TheVariants.{Done, Throw}
 use Rattle.dom_semantics.specs.Forest.{the_host}
+use Rattle.dom_semantics.specs.Grants.{no_grants}
 use Rattle.dom_semantics.specs.Things.{thing_of, the_window}
 use Rattle.js_syntax.specs.declared.tree.Expr.{Expr}
 use Rattle.js_syntax.specs.declared.tree.Expr.TheVariants as ex
@@ -21,7 +22,7 @@ use Rattle.js_syntax.specs.declared.tree.Property.TheVariants as property
 use Rattle.js_syntax.specs.declared.tree.Stmt.{Stmt}
 use Rattle.js_syntax.specs.declared.tree.Stmt.TheVariants as st
 use Rattle.js_semantics.specs.Intrinsics.{Setup}
-use Rattle.js_semantics.specs.Programs.{AsksFor, Misfits, acted_in, a_userscript, n, name, do_, assign, call, member, lambda}
+use Rattle.js_semantics.specs.Programs.{AsksIn, AsksFor, Misfits, a_userscript, n, name, do_, assign, call, member, lambda}
 
 abbrev document : Thing
 document = thing_of Document 1
@@ -69,7 +70,7 @@ new_event = ex.New (name (codes "Event")) (ex.Str (codes "x") ∷ [])
 
 -- a userscript that may read what it keeps
 abbrev a_keeper : Setup
-a_keeper = record a_userscript { grants = record { no_grant = false; unsafe_window = false; get_value = true; set_value = false; delete_value = false; list_values = false; log = true } }
+a_keeper = record a_userscript { grants = record no_grants { get_value = true; log = true } }
 
 -- members
 pub record Members : Type 0 where
@@ -77,7 +78,8 @@ pub record Members : Type 0 where
   pub read : AsksFor 20 8 (log (member (name (codes "document")) (codes "nodeType")) ∷ []) (met ∷ gives (door.Number (pos 9)) ∷ done ∷ [])
       (asks_document ∷ Native m.NodeNodeType document [] ∷ logs (codes "9") ∷ []) Done 9
   -- document.getElementById("d").textContent = null;
-  pub emptied : AsksFor 20 8 (do_ (assign (member (on_document (codes "getElementById") (ex.Str (codes "d") ∷ [])) (codes "textContent")) ex.Null) ∷ [])
+  pub emptied : AsksFor 20 8
+      (do_ (assign (member (on_document (codes "getElementById") (ex.Str (codes "d") ∷ [])) (codes "textContent")) ex.Null) ∷ [])
       (met ∷ gives (door.Thing element) ∷ done ∷ [])
       (asks_document ∷ Native m.DocumentGetElementById document (door.Str (codes "d") ∷ []) ∷ Native m.NodeSetTextContent element (door.Str [] ∷ []) ∷ []) Done 10
   -- GM_log(document.childNodes.length);
@@ -118,8 +120,8 @@ pub record Members : Type 0 where
       (gives (door.Thing (thing_of Event 1)) ∷ [])
       (Native m.NewCustomEvent the_window (door.Str (codes "x") ∷ door.Bool true ∷ door.Bool false ∷ door.Cell the_host 301 shape.Plain false ∷ []) ∷ []) Done 8
   -- GM_log(GM_getValue("k", 5)); where nothing is kept
-  pub absent : acted_in a_keeper 20 8 (log (call (name (codes "GM_getValue")) (ex.Str (codes "k") ∷ n 5 ∷ [])) ∷ []) (answer.Absent ∷ done ∷ [])
-      ≡ Some (record { asked = Native m.GmGetValue the_window (door.Str (codes "k") ∷ []) ∷ logs (codes "5") ∷ []; outcome = Done; units = 10 })
+  pub absent : AsksIn a_keeper 20 8 (log (call (name (codes "GM_getValue")) (ex.Str (codes "k") ∷ n 5 ∷ [])) ∷ []) (answer.Absent ∷ done ∷ [])
+      (Native m.GmGetValue the_window (door.Str (codes "k") ∷ []) ∷ logs (codes "5") ∷ []) Done 10
   -- document; which is answered as the window under another kind, and with a refusal that it doesn't have
   pub other_kind : Misfits 20 8 (do_ (name (codes "document")) ∷ []) (gives (door.Thing (thing_of Document 0)) ∷ [])
   pub other_refusal : Misfits 20 8 (do_ (name (codes "document")) ∷ []) (answer.Throw Hierarchy ∷ [])

@@ -81,10 +81,14 @@ a_userscript = record the_page { zone = XrayScript; grants = record { no_grant =
 abbrev pub acted_in : Setup → (fuel levels : ℕ) → List Stmt → List Answer → Option Acted
 acted_in setup fuel levels body answers = acted answers [] (script_entry fuel levels body (fresh setup) (λ m answer. Stuck))
 
+-- it asks for this
+abbrev pub AsksIn : Setup → (fuel levels : ℕ) → List Stmt → List Answer → List Request → Outcome → (units : ℕ) → Type 0
+AsksIn setup fuel levels body answers asked outcome units =
+    acted_in setup fuel levels body answers ≡ Some (record { asked = asked; outcome = outcome; units = units })
+
 -- a userscript asks for this when it is given these answers
 abbrev pub AsksFor : (fuel levels : ℕ) → List Stmt → List Answer → List Request → Outcome → (units : ℕ) → Type 0
-AsksFor fuel levels body answers asked outcome units =
-    acted_in a_userscript fuel levels body answers ≡ Some (record { asked = asked; outcome = outcome; units = units })
+AsksFor fuel levels body answers asked outcome units = AsksIn a_userscript fuel levels body answers asked outcome units
 
 -- these answers are none of a run
 abbrev pub Misfits : (fuel levels : ℕ) → List Stmt → List Answer → Type 0

@@ -74,7 +74,8 @@ pub record Looks : Type 0 where
   pub standard : AsksFor 20 9 (log (ex.Unary unary.TypeOf (member detail (codes "toString"))) ∷ []) (answers_with an_object ++ answer.Absent ∷ done ∷ [])
       (asks_detail ++ Peek PAGE 0 (codes "toString") ∷ logs (codes "function") ∷ []) Done 15
   -- var x = new CustomEvent("x").detail; x.a = 1; GM_log(x.a);
-  pub expando : AsksFor 20 8 (var_ (codes "x") detail ∷ do_ (assign (member (name (codes "x")) (codes "a")) (n 1)) ∷ log (member (name (codes "x")) (codes "a")) ∷ [])
+  pub expando : AsksFor 20 8
+      (var_ (codes "x") detail ∷ do_ (assign (member (name (codes "x")) (codes "a")) (n 1)) ∷ log (member (name (codes "x")) (codes "a")) ∷ [])
       (answers_with an_object ++ done ∷ []) (asks_detail ++ logs (codes "1") ∷ []) Done 18
   -- GM_log(Object.keys(new CustomEvent("x").detail).length);
   pub keys : AsksFor 20 9 (log (member (call (member (name (codes "Object")) (codes "keys")) (detail ∷ [])) (codes "length")) ∷ [])
@@ -84,7 +85,8 @@ pub record Looks : Type 0 where
   pub has : AsksFor 20 8 (log (ex.In (ex.Str (codes "a")) detail) ∷ []) (answers_with an_object ++ answer.Absent ∷ done ∷ [])
       (asks_detail ++ Peek PAGE 0 (codes "a") ∷ logs (codes "false") ∷ []) Done 14
   -- GM_log(new CustomEvent("x").detail.message); of an error of the page
-  pub of_error : AsksFor 20 8 (log (member detail (codes "message")) ∷ []) (answers_with an_error ++ done ∷ []) (asks_detail ++ logs (codes "undefined") ∷ []) Done 12
+  pub of_error : AsksFor 20 8 (log (member detail (codes "message")) ∷ []) (answers_with an_error ++ done ∷ [])
+      (asks_detail ++ logs (codes "undefined") ∷ []) Done 12
   -- new CustomEvent("x").detail(); of a plain object of the page
   pub called : AsksFor 20 8 (do_ (call detail []) ∷ []) (answers_with an_object) asks_detail (Throw (codes "TypeError: not a function")) 8
   -- new CustomEvent("x").detail.a; of another userscript
@@ -94,9 +96,11 @@ pub record Looks : Type 0 where
   pub call_denied : AsksFor 20 8 (do_ (call detail []) ∷ []) (answers_with a_stranger) asks_detail
       (Throw (codes "Error: Permission denied to access property")) 8
   -- GM_log(new CustomEvent("x").detail instanceof Object);
-  pub instance_of : AsksFor 20 8 (log (ex.InstanceOf detail (name (codes "Object"))) ∷ []) (answers_with an_object ++ done ∷ []) (asks_detail ++ logs (codes "true") ∷ []) Done 13
+  pub instance_of : AsksFor 20 8 (log (ex.InstanceOf detail (name (codes "Object"))) ∷ []) (answers_with an_object ++ done ∷ [])
+      (asks_detail ++ logs (codes "true") ∷ []) Done 13
   -- Object.setPrototypeOf(Object.prototype, new CustomEvent("x").detail); which would close a chain
-  pub ring : AsksFor 20 8 (do_ (call (member (name (codes "Object")) (codes "setPrototypeOf")) (member (name (codes "Object")) (codes "prototype") ∷ detail ∷ [])) ∷ [])
+  pub ring : AsksFor 20 8
+      (do_ (call (member (name (codes "Object")) (codes "setPrototypeOf")) (member (name (codes "Object")) (codes "prototype") ∷ detail ∷ [])) ∷ [])
       (answers_with an_object) asks_detail (Throw (codes "TypeError: wrong kind of value")) 12
   -- new CustomEvent("x").detail.a; where the look is denied, which no Xray is
   pub misfit : Misfits 20 8 (do_ (member detail (codes "a")) ∷ []) (answers_with an_object ++ answer.Denied ∷ [])
