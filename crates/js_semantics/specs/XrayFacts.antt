@@ -1,6 +1,6 @@
 -- What a userscript does with another's objects, computed by the definitions alone. It meets one as the detail of an event, the first thing that
 -- it meets after the window.
-use Rattle.std.specs.Prelude.{ℕ, List, [], ◌∷◌, ◌++◌, Some, None, true, false, pos, codes}
+use Rattle.std.specs.Prelude.{ℕ, List, [], ◌∷◌, ◌++◌, true, false, pos, codes}
 use Rattle.base_text.specs.declared.operators.UnaryOp.TheVariants as unary
 use Rattle.door.specs.declared.values.TheConstants.{PAGE}
 use Rattle.door.specs.declared.values.Actor.{Actor}
@@ -19,7 +19,6 @@ use Rattle.dom_semantics.specs.Things.{thing_of, the_window}
 use Rattle.js_syntax.specs.declared.tree.Expr.{Expr}
 use Rattle.js_syntax.specs.declared.tree.Expr.TheVariants as ex
 use Rattle.js_syntax.specs.declared.tree.Stmt.{Stmt}
-use Rattle.js_syntax.specs.declared.tree.Stmt.TheVariants as st
 use Rattle.js_semantics.specs.Programs.{AsksFor, Misfits, n, name, do_, var_, assign, call, member}
 
 abbrev event : Thing
