@@ -1,6 +1,8 @@
 //! Listeners, events and the walk that takes an event along its path (DOM, 2 Events).
 #![tactic(auto)]
 
+#[cfg(test)]
+mod bench_tests;
 mod events;
 mod listeners;
 mod path;

@@ -1,6 +1,6 @@
 //! Event listener lists (DOM, 2.7 Interface EventTarget): what is registered, and the calls that change it.
 
-ghost use Rattle.std.specs.Prelude.{◌≡◌, ◌↔◌, ◌<◌, ◌-◌, ◌^◌, OnOk, OnErr, IsErrOf};
+ghost use Rattle.std.specs.Prelude.{◌≡◌, ◌↔◌, ◌<◌, ◌-◌, ◌^◌, true, OnOk, OnErr, IsOk, IsErrOf};
 ghost use Rattle.std.specs.declared.option.Option.TheVariants.{Some};
 ghost use Rattle.door.specs.declared.requests.ErrorKind.TheVariants.{Limit};
 ghost use Rattle.dom_semantics.specs.Listeners as spec;
@@ -58,14 +58,15 @@ impl Listeners {
         }
     }
 
-    /// Adds a listener at the end (DOM, add an event listener). An equal one that is registered changes nothing.
-    /// It is refused as ListenerLimit exactly where its owner has 10,000 and no equal one is registered, and as
-    /// NoMemory where there was no memory; a refusal changes nothing.
+    /// Adds a listener at the end (DOM, add an event listener). Where an equal one is registered, it isn't refused, and
+    /// nothing changes. It is refused as ListenerLimit exactly where its owner has 10,000 and no equal one is
+    /// registered, and as NoMemory where there was no memory; a refusal changes nothing.
     pub fn add(&mut self, l: Listener) -> Result<(), ListenerFault>
         requires { self.old.given < 2 ^ 32 - 1 }
         ensures ok { OnOk result (self.new ≡ spec.listener_added self.old l) }
         ensures err { OnErr result (self.new ≡ self.old) }
         ensures limit { IsErrOf result ListenerFault.ListenerLimit ↔ (spec.add_refusal self.old l ≡ Some Limit) }
+        ensures again { spec.is_registered self.old.registered l ≡ true → IsOk result }
     {
         if is_registered(&self.registered, &l) {
             return Ok(());

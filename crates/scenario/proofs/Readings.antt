@@ -1,6 +1,6 @@
 -- A line says one thing or has one fault, and so does a scenario.
-use Rattle.std.specs.Prelude.{◌≡◌, ◌≢◌, ◌≤◌, ◌<◌, ◌+◌, ◌^◌, ◌⊎◌, ℕ, zero, suc, List, [], ◌∷◌, ◌++◌, length, codes, refl, Ok, Err, Bool, true, false}
-use Rattle.std.specs.Str.{chars, IsUtf8}
+use Rattle.std.specs.Prelude.{◌≡◌, ◌≢◌, ◌+◌, ◌⊎◌, ℕ, List, [], ◌∷◌, ◌++◌, length, refl, Ok, Err, Bool, true, false}
+use Rattle.std.specs.Str.{chars}
 use Rattle.std.specs.Str.Lines.{lines}
 use Rattle.std.specs.Fmt.{decimal}
 use Rattle.std.proofs.Common.{ap, sym, ◌∙◌, subst, inl, inr, arith, true≢false}
@@ -13,12 +13,11 @@ use Rattle.scenario.specs.declared.line.Line.{Line}
 use Rattle.scenario.specs.declared.line.Line.TheVariants.{Click, Input, Event, Tick}
 use Rattle.scenario.specs.declared.line.Verb.{Verb}
 use Rattle.scenario.specs.declared.line.Verb.TheVariants as verb
-use Rattle.scenario.specs.declared.line.TheConstants.{SCENARIO_LIMIT, TICK_LIMIT}
 use Rattle.scenario.specs.declared.fault.EventsKind.{EventsKind}
 use Rattle.scenario.specs.declared.fault.EventsKind.TheVariants.{TooLong, NotUtf8, BadVerb, MissingField, BadSelector, BadNumber}
 use Rattle.scenario.specs.declared.fault.EventsFault.{EventsFault}
-use Rattle.scenario.specs.Lines.{Chains, AreTwo, BeginsWith, Fails, HasBadRest, HasFields, HasRest, IsFaultyLine, IsLine, IsName, IsSelectorField, IsSkipped, IsTick, RestFails, Says, Selects, number_of, verb_of, verb_text}
-use Rattle.scenario.specs.Scenarios.{SayAll, IsFine, FailsFirst, IsFile, IsScenario, IsRefused}
+use Rattle.scenario.specs.Lines.{Chains, BeginsWith, Fails, HasBadRest, HasFields, HasRest, IsFaultyLine, IsLine, IsSelectorField, IsSkipped, IsTick, RestFails, Says, Selects, number_of, verb_of, verb_text}
+use Rattle.scenario.specs.Scenarios.{SayAll, IsFine, FailsFirst, IsScenario, IsRefused}
 use Rattle.scenario.proofs.Spaces.{one_split, no_split, verb_solid, one_two}
 
 -- ---- verbs

@@ -1,13 +1,13 @@
 -- Texts split at their first space.
-use Rattle.std.specs.Prelude.{◌≡◌, ◌≢◌, ◌<◌, ◌⊎◌, ℕ, zero, suc, List, [], ◌∷◌, ◌++◌, Bool, true, false, ◌||◌, ◌==◌, length, refl, Option, Some, None, MatchOption}
+use Rattle.std.specs.Prelude.{◌≡◌, ◌≢◌, ◌<◌, ℕ, suc, List, [], ◌∷◌, ◌++◌, Bool, true, false, ◌||◌, ◌==◌, length, refl, Option, Some, None, MatchOption}
 use Rattle.std.specs.Borrow.{Bor}
 use Rattle.std.specs.List.{list_any}
-use Rattle.std.proofs.Common.{ap, sym, ◌∙◌, subst, inl, inr, arith, get_or, true≢false, eq-eqb, eqb-true}
+use Rattle.std.proofs.Common.{ap, sym, ◌∙◌, inl, inr, arith, get_or, true≢false, eq-eqb, eqb-true}
 use Rattle.std.proofs.lemmas.Bool.{ne_eqb}
 use Rattle.std.proofs.lemmas.Str.Pattern.{IsSplitOnceResult, split_parts}
 use Rattle.scenario.specs.declared.line.Verb.{Verb}
 use Rattle.scenario.specs.declared.line.Verb.TheVariants as verb
-use Rattle.scenario.specs.Lines.{AreTwo, BeginsWith, HasNoSpace, verb_text}
+use Rattle.scenario.specs.Lines.{AreTwo, BeginsWith, HasNoSpace, IsSkipped, verb_text}
 use Rattle.scenario.specs.Parts.{IsSplit}
 
 first_of : (a b : ℕ) (xs ys : List ℕ) → a ∷ xs ≡ b ∷ ys → (a ≡ b) × (xs ≡ ys)
@@ -53,10 +53,13 @@ verb_solid verb.Input = refl
 verb_solid verb.Event = refl
 verb_solid verb.Tick = refl
 
+pub solid_more : (x : ℕ) (xs : List ℕ) → x ≢ 32 → HasNoSpace xs → HasNoSpace (x ∷ xs)
+solid_more x xs other h = both_false (x == 32) (list_any (λ d. d == 32) xs) (ne_eqb x 32 other) h
+
 -- no byte is a space
 pub all_solid : (xs : List ℕ) → ((i : ℕ) → i < length xs → get_or xs i 0 ≢ 32) → HasNoSpace xs
 all_solid [] h = refl
-all_solid (x ∷ xs) h = both_false (x == 32) (list_any (λ d. d == 32) xs) (ne_eqb x 32 (h 0 (omega arith))) (all_solid xs (λ i below. h (suc i) (omega arith)))
+all_solid (x ∷ xs) h = solid_more x xs (h 0 (omega arith)) (all_solid xs (λ i below. h (suc i) (omega arith)))
 
 split_is : (s : List ℕ) (r : Option (Bor (List ℕ) × Bor (List ℕ))) → MatchOption r ((i : ℕ) → i < length s → get_or s i 0 ≢ 32) (λ x. (s ≡ x.0.now ++ (32 ∷ x.1.now)) × ((i : ℕ) → i < length x.0.now → get_or x.0.now i 0 ≢ 32))
     → MatchOption r (HasNoSpace s) (λ x. IsSplit s x.0.now x.1.now)
@@ -68,6 +71,16 @@ pub split_told : (s : List ℕ) (r : Option (Bor (List ℕ) × Bor (List ℕ))) 
 split_told s r h = split_is s r (split_parts 32 s r h (omega arith))
 
 -- ---- empty texts
+
+pub some_byte : (b : ℕ) (bs : List ℕ) → b ∷ bs ≢ []
+some_byte b bs e = let h : length (b ∷ bs) ≡ 0 = ap length e in omega (arith, h)
+
+-- a line that begins with another byte than `#` isn't skipped
+pub kept_line : (b : ℕ) (bs : List ℕ) → b ≢ 35 → IsSkipped (b ∷ bs) → ⊥
+kept_line b bs other s = elim s [
+  | inl e ↦ some_byte b bs e
+  | inr m ↦ other (first_of b 35 bs m.0 m.1).0
+]
 
 pub empty_list : (s : List ℕ) (b : Bool) → b ≡ (length s == 0) → b ≡ true → s ≡ []
 empty_list [] b e t = refl

@@ -2,7 +2,7 @@
 use Rattle.std.specs.Prelude.{◌≡◌, ℕ, List, Result, Ok, Err, IfOk}
 use Rattle.std.specs.Borrow.{Bor}
 use Rattle.std.specs.Str.Lines.{lines}
-use Rattle.std.proofs.Common.{ap, ◌∙◌, subst, inl, inr}
+use Rattle.std.proofs.Common.{ap, ◌∙◌, subst, inr}
 use Rattle.base_text.specs.Answers.{IfFault, FaultOrMemory}
 use Rattle.base_text.specs.declared.memory.OrMemory.{OrMemory}
 use Rattle.base_text.specs.declared.memory.OrMemory.TheVariants.{Fault, NoMemory}

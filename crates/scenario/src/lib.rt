@@ -11,6 +11,6 @@ mod read;
 mod tests;
 
 pub use fault::{EventsFault, EventsKind};
-pub use laws::a_scenario_has_one_reading;
+pub use laws::{a_scenario_has_one_reading, some_scenarios_are_read_so};
 pub use line::{Line, SCENARIO_LIMIT, TICK_LIMIT};
 pub use read::read_events;

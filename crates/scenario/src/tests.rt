@@ -8,6 +8,7 @@ use dom_query::{Selector, parse_selector};
 use std::alloc::Global;
 use std::process::Abort;
 use std::test::Fail;
+use std::time::Instant;
 
 /// A line's number, its verb, its selector, and its text, name or number.
 type Said = (u32, &'static str, &'static str, &'static str);
@@ -242,5 +243,46 @@ fn whole_files_are_refused(rt: HostRuntime) -> Result<(), Fail> {
     assert!(rt; last.len() == 262_144);
     last[262_143] = b'x';
     assert_eq!(rt; fault_of(alloc, last.as_slice()), at(262_144, BadVerb));
+    Ok(())
+}
+
+/// A file that begins so and has as many of these pieces as the limit takes.
+fn full_of(alloc: Global, begin: &str, piece: &str) -> Result<Vec<u8>, Fail> {
+    let mut bytes = Vec::new(alloc);
+    bytes.extend_from_slice(begin.as_bytes())?;
+    for _ in 0..SCENARIO_LIMIT {
+        if SCENARIO_LIMIT.saturating_sub(bytes.len()) < piece.len() {
+            break;
+        }
+        bytes.extend_from_slice(piece.as_bytes())?;
+    }
+    Ok(bytes)
+}
+
+/// The times are for `bench/run`.
+#[test]
+fn full_files_are_read(rt: HostRuntime) -> Result<(), Fail> {
+    let alloc = rt.alloc();
+    for (begin, piece, want) in [
+        ("", "\n", 0),
+        ("", "# a comment\n", 0),
+        ("", "tick 1\n", 37_449),
+        ("", "click p\n", 32_768),
+        ("", "input p x\n", 26_214),
+        ("", "event p x\n", 26_214),
+        ("click p", "p", 1),
+        ("click p", ",p", 1),
+        ("input p ", "x", 1),
+    ] {
+        let file = full_of(alloc, begin, piece)?;
+        let began = Instant::now(&rt)?;
+        let read = read_events(alloc, file.as_slice())?.len();
+        let took = began.elapsed(&rt)?.as_micros();
+        assert_eq!(rt; read, want, "{piece:?}");
+        println!(rt;
+            "bench: scenario of {} bytes, {begin:?} and then {piece:?} again and again: {took} us",
+            file.len()
+        )?;
+    }
     Ok(())
 }

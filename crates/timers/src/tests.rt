@@ -4,6 +4,7 @@ use crate::*;
 use door::{Actor, PAGE};
 use std::process::Abort;
 use std::test::Fail;
+use std::time::Instant;
 
 const A: Actor = Actor(2);
 
@@ -277,10 +278,10 @@ fn timers_run_by_due_time_and_then_by_setting(rt: HostRuntime) -> Result<(), Fai
     Ok(())
 }
 
-/// Sets timers of an actor as long as its numbers go on.
-fn fill(rt: &impl Abort, timers: &mut Timers, actor: Actor, count: u32) -> u32 {
+/// Sets timers of an actor with one delay as long as its numbers go on.
+fn fill(rt: &impl Abort, timers: &mut Timers, actor: Actor, delay: u32, count: u32) -> u32 {
     for earlier in 0..count {
-        if !goes(rt, timers, Step::Set(actor, 5, earlier, earlier + 1)) {
+        if !goes(rt, timers, Step::Set(actor, delay, earlier, earlier + 1)) {
             return earlier;
         }
     }
@@ -290,7 +291,7 @@ fn fill(rt: &impl Abort, timers: &mut Timers, actor: Actor, count: u32) -> u32 {
 #[test]
 fn a_thousand_of_an_actor_wait(rt: HostRuntime) -> Result<(), Fail> {
     let mut timers = Timers::new(rt.alloc());
-    assert_eq!(rt; fill(&rt, &mut timers, PAGE, 1_000), 1_000);
+    assert_eq!(rt; fill(&rt, &mut timers, PAGE, 5, 1_000), 1_000);
     let steps = [
         Step::Full(PAGE),
         Step::Full(PAGE),
@@ -327,9 +328,17 @@ fn chain(rt: &impl Abort, timers: &mut Timers, count: u32) -> u32 {
     count
 }
 
+/// The times are for `bench/run`.
 #[test]
 fn a_long_chain_of_timers_runs(rt: HostRuntime) -> Result<(), Fail> {
-    let mut timers = Timers::new(rt.alloc());
-    assert_eq!(rt; chain(&rt, &mut timers, 15_000), 15_000);
+    for waiting in [0, 1_000] {
+        let mut timers = Timers::new(rt.alloc());
+        assert_eq!(rt; fill(&rt, &mut timers, A, 1_000_000_000, waiting), waiting);
+        let began = Instant::now(&rt)?;
+        let ran = chain(&rt, &mut timers, 15_000);
+        let took = began.elapsed(&rt)?.as_micros();
+        assert_eq!(rt; ran, 15_000);
+        println!(rt; "bench: {ran} chained timers, {waiting} others that wait: {took} us")?;
+    }
     Ok(())
 }

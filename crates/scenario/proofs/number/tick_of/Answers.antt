@@ -1,4 +1,4 @@
-use Rattle.std.proofs.Common.{arith, subst, sym, ◌∙◌}
+use Rattle.std.proofs.Common.{arith, subst, sym}
 use Rattle.scenario.specs.Parts.{IsPlain}
 use Rattle.scenario.proofs.Numbers.{false_true, no_number, one_number, tick_parsed, tick_plain, tick_read}
 use Rattle.scenario.proofs.number.tick_of.Goals as goal
