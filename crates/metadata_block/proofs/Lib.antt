@@ -7,4 +7,4 @@ pub mod Pairs
 pub mod SameBlocks
 pub mod Taking
 pub mod Trims
-pub mod Words
+pub mod KeyWords

@@ -14,7 +14,7 @@ use Rattle.metadata_block.specs.declared.meta.Meta.{Meta}
 use Rattle.metadata_block.specs.declared.words.Key.{Key}
 use Rattle.metadata_block.specs.declared.words.Key.TheVariants as key
 use Rattle.metadata_block.proofs.OneBlock.{one_reading, one_way}
-use Rattle.metadata_block.proofs.Words.{one_key, one_moment, one_grant}
+use Rattle.metadata_block.proofs.KeyWords.{one_key, one_moment, one_grant}
 use Rattle.url_rules.specs.Patterns.{Rose}
 use Rattle.url_rules.specs.Reads.{ReadsRule, RefusesRule}
 use Rattle.url_rules.specs.Same.{SameRule}
@@ -98,28 +98,28 @@ same_nothing = record { name = refl; namespace = refl; run_at = refl; grants = r
 -- ---- lines that are refused
 
 set_refused : NotRefused → (u : Key) (before after : ℕ) (a b m : Meta) (p : Pair) (f : MetaFault) → (Rose before after → ⊥) → a.grants ≡ b.grants → Sets u p.value a m → Refuses u before after b p f → ⊥
-set_refused no key.Name before after a b m p f steady same s h = h
-set_refused no key.Namespace before after a b m p f steady same s h = h
-set_refused no key.RunAt before after a b m p f steady same s h = h.1 s.0 s.1
-set_refused no key.Grant before after a b m p f steady same s h = elim h.1 [
+set_refused never key.Name before after a b m p f steady same s h = h
+set_refused never key.Namespace before after a b m p f steady same s h = h
+set_refused never key.RunAt before after a b m p f steady same s h = h.1 s.0 s.1
+set_refused never key.Grant before after a b m p f steady same s h = elim h.1 [
   | inl none ↦ none s.0 s.1
   | inr bad ↦ bad.2 (subst (λ (gs : List Grant). Agrees gs bad.0) same (subst (Agrees a.grants) (one_grant s.0 bad.0 (sym s.1 ∙ bad.1)) s.2))
 ]
-set_refused no key.Include before after a b m p f steady same s h = no kind.Glob (encode_utf8_all p.value) s.0 before after h.1.0 s.1 steady h.1.1 h.1.2
-set_refused no key.Exclude before after a b m p f steady same s h = no kind.Glob (encode_utf8_all p.value) s.0 before after h.1.0 s.1 steady h.1.1 h.1.2
-set_refused no key.Match before after a b m p f steady same s h = no kind.Pattern (encode_utf8_all p.value) s.0 before after h.1.0 s.1 steady h.1.1 h.1.2
+set_refused never key.Include before after a b m p f steady same s h = never kind.Glob (encode_utf8_all p.value) s.0 before after h.1.0 s.1 steady h.1.1 h.1.2
+set_refused never key.Exclude before after a b m p f steady same s h = never kind.Glob (encode_utf8_all p.value) s.0 before after h.1.0 s.1 steady h.1.1 h.1.2
+set_refused never key.Match before after a b m p f steady same s h = never kind.Pattern (encode_utf8_all p.value) s.0 before after h.1.0 s.1 steady h.1.1 h.1.2
 
 taken_refused : NotRefused → (before after : ℕ) (a b m : Meta) (p : Pair) (f : MetaFault) → (Rose before after → ⊥) → a.grants ≡ b.grants → Takes a p m → FailsAt before after b p f → ⊥
-taken_refused no before after a b m p f steady same t h = elim t [
-  | inl used ↦ set_refused no h.key before after a b m p f steady same (subst (λ (u : Key). Sets u p.value a m) (one_key used.0 h.key (sym used.1 ∙ h.key_is)) used.2) h.refused
+taken_refused never before after a b m p f steady same t h = elim t [
+  | inl used ↦ set_refused never h.key before after a b m p f steady same (subst (λ (u : Key). Sets u p.value a m) (one_key used.0 h.key (sym used.1 ∙ h.key_is)) used.2) h.refused
   | inr other ↦ other.0 h.key h.key_is
 ]
 
 all_refused : OneRule → NotRefused → (ps : List Pair) (before after : ℕ) (a b m : Meta) (f : MetaFault) → (Rose before after → ⊥) → SameMeta a b → TakesAll ps a m → Fails before after ps b f → ⊥
-all_refused one no [] before after a b m f steady same t h = h
-all_refused one no (p ∷ ps) before after a b m f steady same t h = elim h [
-  | inl here ↦ taken_refused no before after a b t.0 p f steady same.grants t.1 here
-  | inr later ↦ all_refused one no ps before after t.0 later.0 m f steady (takes_same one a b t.0 later.0 p same t.1 later.1) t.2 later.2
+all_refused one never [] before after a b m f steady same t h = h
+all_refused one never (p ∷ ps) before after a b m f steady same t h = elim h [
+  | inl here ↦ taken_refused never before after a b t.0 p f steady same.grants t.1 here
+  | inr later ↦ all_refused one never ps before after t.0 later.0 m f steady (takes_same one a b t.0 later.0 p same t.1 later.1) t.2 later.2
 ]
 
 refused_once : (u : Key) (b a c d : ℕ) (m n : Meta) (p : Pair) (f g : MetaFault) → Refuses u b a m p f → Refuses u c d n p g → f ≡ g
@@ -135,15 +135,15 @@ line_once : (b a c d : ℕ) (m n : Meta) (p : Pair) (f g : MetaFault) → FailsA
 line_once b a c d m n p f g h k = refused_once h.key b a c d m n p f g h.refused (subst (λ (u : Key). Refuses u c d n p g) (one_key k.key h.key (sym k.key_is ∙ h.key_is)) k.refused)
 
 fails_once : OneRule → NotRefused → (ps : List Pair) (b a c d : ℕ) (m n : Meta) (f g : MetaFault) → (Rose b a → ⊥) → (Rose c d → ⊥) → SameMeta m n → Fails b a ps m f → Fails c d ps n g → f ≡ g
-fails_once one no [] b a c d m n f g steady still same h k = absurd h
-fails_once one no (p ∷ ps) b a c d m n f g steady still same h k = elim h [
+fails_once one never [] b a c d m n f g steady still same h k = absurd h
+fails_once one never (p ∷ ps) b a c d m n f g steady still same h k = elim h [
   | inl here ↦ elim k [
     | inl there ↦ line_once b a c d m n p f g here there
-    | inr later ↦ absurd (taken_refused no b a n m later.0 p f steady (sym same.grants) later.1 here)
+    | inr later ↦ absurd (taken_refused never b a n m later.0 p f steady (sym same.grants) later.1 here)
   ]
   | inr after ↦ elim k [
-    | inl there ↦ absurd (taken_refused no c d m n after.0 p g still same.grants after.1 there)
-    | inr later ↦ fails_once one no ps b a c d after.0 later.0 f g steady still (takes_same one m n after.0 later.0 p same after.1 later.1) after.2 later.2
+    | inl there ↦ absurd (taken_refused never c d m n after.0 p g still same.grants after.1 there)
+    | inr later ↦ fails_once one never ps b a c d after.0 later.0 f g steady still (takes_same one m n after.0 later.0 p same after.1 later.1) after.2 later.2
   ]
 ]
 
@@ -203,15 +203,15 @@ pub one_meta : OneRule → (s : List ℕ) (m n : Meta) → ReadsBlock s m → Re
 one_meta one s m n p q = all_same one p.pairs nothing nothing m n same_nothing p.taken (taken_as s p.pairs q.pairs nothing n p.pairs_are q.pairs_are q.taken)
 
 bad_taken : OneRule → NotRefused → (s : List ℕ) (ps : List Pair) (m : Meta) (before after : ℕ) (f : MetaFault) → (Rose before after → ⊥) → ReadsPairs s (Ok ps) → TakesAll ps nothing m → HasBadLine before after s f → ⊥
-bad_taken one no s ps m before after f steady reads taken bad =
-    all_refused one no bad.pairs before after nothing nothing m f steady same_nothing (taken_as s bad.pairs ps nothing m bad.pairs_are reads taken) bad.fails
+bad_taken one never s ps m before after f steady reads taken bad =
+    all_refused one never bad.pairs before after nothing nothing m f steady same_nothing (taken_as s bad.pairs ps nothing m bad.pairs_are reads taken) bad.fails
 
 bad_once : OneRule → NotRefused → (s : List ℕ) (b a c d : ℕ) (f g : MetaFault) → (Rose b a → ⊥) → (Rose c d → ⊥) → HasBadLine b a s f → HasBadLine c d s g → f ≡ g
-bad_once one no s b a c d f g steady still h k =
-    fails_once one no h.pairs b a c d nothing nothing f g steady still same_nothing h.fails (subst (λ (ps : List Pair). Fails c d ps nothing g) (one_reading s k.pairs h.pairs k.pairs_are h.pairs_are) k.fails)
+bad_once one never s b a c d f g steady still h k =
+    fails_once one never h.pairs b a c d nothing nothing f g steady still same_nothing h.fails (subst (λ (ps : List Pair). Fails c d ps nothing g) (one_reading s k.pairs h.pairs k.pairs_are h.pairs_are) k.fails)
 
 pub one_fault : OneRule → NotRefused → (s : List ℕ) (f g : MetaFault) → HasFault s f → HasFault s g → f ≡ g
-one_fault one no s f g h k = elim (cause_of h.before h.after s f h.not_memory h.fails) [
+one_fault one never s f g h k = elim (cause_of h.before h.after s f h.not_memory h.fails) [
   | inl none ↦ elim (cause_of k.before k.after s g k.not_memory k.fails) [
     | inl absent ↦ none.is ∙ (ap fault_of (absent_once s none.cause absent.cause none.known absent.known none.reads absent.reads) ∙ sym absent.is)
     | inr other ↦ elim other [
@@ -224,25 +224,25 @@ one_fault one no s f g h k = elim (cause_of h.before h.after s f h.not_memory h.
       | inl absent ↦ absurd (pairs_apart s unnamed.1.pairs absent.cause absent.known unnamed.1.pairs_are absent.reads)
       | inr other ↦ elim other [
         | inl nameless ↦ unnamed.0 ∙ sym nameless.0
-        | inr bad ↦ absurd (bad_taken one no s unnamed.1.pairs unnamed.1.meta k.before k.after g k.not_size unnamed.1.pairs_are unnamed.1.taken bad)
+        | inr bad ↦ absurd (bad_taken one never s unnamed.1.pairs unnamed.1.meta k.before k.after g k.not_size unnamed.1.pairs_are unnamed.1.taken bad)
       ]
     ]
     | inr bad ↦ elim (cause_of k.before k.after s g k.not_memory k.fails) [
       | inl absent ↦ absurd (pairs_apart s bad.pairs absent.cause absent.known bad.pairs_are absent.reads)
       | inr other ↦ elim other [
-        | inl nameless ↦ absurd (bad_taken one no s nameless.1.pairs nameless.1.meta h.before h.after f h.not_size nameless.1.pairs_are nameless.1.taken bad)
-        | inr worse ↦ bad_once one no s h.before h.after k.before k.after f g h.not_size k.not_size bad worse
+        | inl nameless ↦ absurd (bad_taken one never s nameless.1.pairs nameless.1.meta h.before h.after f h.not_size nameless.1.pairs_are nameless.1.taken bad)
+        | inr worse ↦ bad_once one never s h.before h.after k.before k.after f g h.not_size k.not_size bad worse
       ]
     ]
   ]
 ]
 
 pub not_both : OneRule → NotRefused → (s : List ℕ) (m : Meta) (f : MetaFault) → ReadsBlock s m → HasFault s f → ⊥
-not_both one no s m f reads h = elim (cause_of h.before h.after s f h.not_memory h.fails) [
+not_both one never s m f reads h = elim (cause_of h.before h.after s f h.not_memory h.fails) [
   | inl absent ↦ pairs_apart s reads.pairs absent.cause absent.known reads.pairs_are absent.reads
   | inr other ↦ elim other [
     | inl unnamed ↦
         reads.named ((all_same one reads.pairs nothing nothing m unnamed.1.meta same_nothing reads.taken (taken_as s reads.pairs unnamed.1.pairs nothing unnamed.1.meta reads.pairs_are unnamed.1.pairs_are unnamed.1.taken)).name ∙ unnamed.1.unnamed)
-    | inr bad ↦ bad_taken one no s reads.pairs m h.before h.after f h.not_size reads.pairs_are reads.taken bad
+    | inr bad ↦ bad_taken one never s reads.pairs m h.before h.after f h.not_size reads.pairs_are reads.taken bad
   ]
 ]
