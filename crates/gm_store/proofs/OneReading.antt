@@ -1,12 +1,14 @@
 -- A text has one reading as stored maps, and a written text is read as the maps that it was written from.
-use Rattle.std.specs.Prelude.{◌≡◌, ◌≤◌, ℕ, List, Some}
+use Rattle.std.specs.Prelude.{◌≡◌, ◌≤◌, ℕ, List, Some, refl}
 use Rattle.std.specs.FinMap.{empty, entries}
 use Rattle.std.proofs.Common.{ap, sym, ◌∙◌, subst}
 use Rattle.serde_json.specs.Data.{Data, depth, Items, no_items, item}
 use Rattle.gm_store.specs.Limits.{MapsFit}
 use Rattle.gm_store.specs.Maps.{Maps, KeepTheSame}
-use Rattle.gm_store.specs.Stored.{AddsScripts, IsStored, IsTextOf, Loads}
+use Rattle.gm_store.specs.Stored.{AddsScripts, IsStored, IsTextOf, Loads, IsRefused}
 use Rattle.gm_store.specs.Written.{stored_data, LoadsBack}
+use Rattle.gm_store.specs.declared.stores.StoreKind.{StoreKind}
+use Rattle.gm_store.specs.declared.stores.StoreKind.TheVariants.{NotJson, BadShape}
 use Rattle.gm_store.proofs.OneText.{stored_same}
 use Rattle.gm_store.proofs.Reading.{same_adds, adds_rest}
 use Rattle.gm_store.proofs.RoundTrip.{round_trip}
@@ -41,3 +43,15 @@ loads_back bytes m fit text =
       some = (back.0, (stored_data m, text, back.1));
       same = λ n p. stored_the_same m n fit (subst (λ (d : Data). IsStored d n) (read_once bytes p.0 (stored_data m) p.1 text) p.2);
     }
+
+-- ---- refused bytes
+
+pub refused_once : (bytes : List ℕ) (f g : StoreKind) → IsRefused bytes f → IsRefused bytes g → f ≡ g
+refused_once bytes NotJson NotJson p q = refl
+refused_once bytes NotJson BadShape p q = absurd (p (q.0, q.1))
+refused_once bytes BadShape NotJson p q = absurd (q (p.0, p.1))
+refused_once bytes BadShape BadShape p q = refl
+
+pub not_refused : (bytes : List ℕ) (m : Maps) (f : StoreKind) → Loads bytes m → IsRefused bytes f → ⊥
+not_refused bytes m NotJson l p = p (l.0, l.1)
+not_refused bytes m BadShape l p = p.2 (m, subst (λ (d : Data). IsStored d m) (read_once bytes l.0 p.0 l.1 p.1) l.2)

@@ -10,6 +10,8 @@ use Rattle.serde_json.specs.Read.{read}
 use Rattle.gm_store.specs.declared.kept.Kept.{Kept}
 use Rattle.gm_store.specs.declared.kept.Kept.TheVariants.{Str, Bool as Truth, Number}
 use Rattle.gm_store.specs.declared.kept.TheConstants.{VALUE_LIMIT}
+use Rattle.gm_store.specs.declared.stores.StoreKind.{StoreKind}
+use Rattle.gm_store.specs.declared.stores.StoreKind.TheVariants.{NotJson, BadShape}
 use Rattle.gm_store.specs.Limits.{IsShort, IsSafe}
 use Rattle.gm_store.specs.Maps.{Values, Maps, names_in, with_values}
 
@@ -80,3 +82,8 @@ pub record IsStored (d : Data) (m : Maps) : Type 0 where
 -- the bytes are a text of the stored form, and these are its maps
 abbrev pub Loads : List ℕ → Maps → Type 0
 Loads bytes m = (d : Data) × IsTextOf bytes d × IsStored d m
+
+-- why bytes aren't loaded: they are no JSON text, or that of a JSON value which isn't of the stored form
+abbrev pub IsRefused : List ℕ → StoreKind → Type 0
+IsRefused bytes NotJson = ¬ ((d : Data) × IsTextOf bytes d)
+IsRefused bytes BadShape = (d : Data) × IsTextOf bytes d × ¬ ((m : Maps) × IsStored d m)

@@ -1,15 +1,18 @@
 //! Laws over the definitions, as the contracts of functions that do nothing.
 ghost use Rattle.gm_store.specs.Maps.{Maps, KeepTheSame};
-ghost use Rattle.gm_store.specs.Stored.{IsStored, Loads};
+ghost use Rattle.gm_store.specs.Stored.{IsStored, Loads, IsRefused};
 ghost use Rattle.gm_store.specs.Written.{stored_data, stored_text};
+ghost use Rattle.gm_store.specs.declared.stores.StoreKind.{StoreKind};
 ghost use Rattle.std.specs.Prelude.{◌≡◌, List, ℕ};
 
 use crate::stores::Stores;
 
-/// A text is read as the stored form in one way at most, so what a load answers excludes every other
-/// answer but want of memory.
+/// A text has one family of maps at most, or one fault at most, and never both, so what a load answers
+/// excludes every other answer but want of memory.
 pub fn stored_texts_are_read_one_way()
-    ensures { (bytes : List ℕ) (m n : Maps) → Loads bytes m → Loads bytes n → m ≡ n }
+    ensures one { (bytes : List ℕ) (m n : Maps) → Loads bytes m → Loads bytes n → m ≡ n }
+    ensures one_fault { (bytes : List ℕ) (f g : StoreKind) → IsRefused bytes f → IsRefused bytes g → f ≡ g }
+    ensures not_both { (bytes : List ℕ) (m : Maps) (f : StoreKind) → Loads bytes m → IsRefused bytes f → ⊥ }
 {}
 
 /// The JSON value that the stores are written as is of the stored form, and each script has the same

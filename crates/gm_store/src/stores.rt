@@ -2,10 +2,9 @@
 ghost use Rattle.base_text.specs.Scalars.{text_cmp};
 ghost use Rattle.base_text.specs.declared.memory.OrMemory.TheVariants.{Fault};
 ghost use Rattle.gm_store.specs.Limits.{IsShort, KeptFits};
-ghost use Rattle.gm_store.specs.Maps.{Maps, values_in, value_at, with_value, without_value};
-ghost use Rattle.gm_store.specs.Stored.{IsStored, IsTextOf, Loads};
+ghost use Rattle.gm_store.specs.Maps.{values_in, value_at, with_value, without_value};
+ghost use Rattle.gm_store.specs.Stored.{Loads, IsRefused};
 ghost use Rattle.gm_store.specs.Written.{stored_text, LoadsBack};
-ghost use Rattle.serde_json.specs.Data.{Data};
 ghost use Rattle.std.specs.FinMap as map;
 ghost use Rattle.std.specs.List.Sorted.{IsStrictlySortedBy};
 ghost use Rattle.std.specs.Option.{option_copied};
@@ -101,9 +100,8 @@ impl Stores {
     /// exactly where they are the text of a JSON value that isn't of the stored form.
     pub fn load(alloc: Global, bytes: &[u8]) -> Result<Stores, StoreFault>
         ensures ok { IfOk result (λ m. Loads bytes.now m) }
-        ensures not_json { IsErrOf result (Fault StoreKind.NotJson) → ¬ ((d : Data) × IsTextOf bytes.now d) }
-        ensures bad_shape { IsErrOf result (Fault StoreKind.BadShape)
-            → (d : Data) × IsTextOf bytes.now d × ¬ ((m : Maps) × IsStored d m) }
+        ensures not_json { IsErrOf result (Fault StoreKind.NotJson) → IsRefused bytes.now StoreKind.NotJson }
+        ensures bad_shape { IsErrOf result (Fault StoreKind.BadShape) → IsRefused bytes.now StoreKind.BadShape }
     {
         let value = match Value::from_slice(alloc, bytes) {
             Ok(value) => value,

@@ -1,6 +1,10 @@
 pub mod Alike
+pub mod Counts
 pub mod Forms
+pub mod OneAnswer
 pub mod OneBlock
 pub mod Pairs
+pub mod SameBlocks
 pub mod Taking
 pub mod Trims
+pub mod KeyWords

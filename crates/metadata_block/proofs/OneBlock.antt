@@ -74,7 +74,7 @@ one_block all n m inside within a b =
     let second = same_split IsEnd inside within a.end b.end a.after b.after first.1 a.none_inside b.none_inside a.ends b.ends in
     (a.number_is ∙ (ap (λ (ls : List (List ℕ)). length ls + 2) first.0 ∙ sym b.number_is), second.0)
 
-one_reading : (s : List ℕ) (ps qs : List Pair) → ReadsPairs s (Ok ps) → ReadsPairs s (Ok qs) → ps ≡ qs
+pub one_reading : (s : List ℕ) (ps qs : List Pair) → ReadsPairs s (Ok ps) → ReadsPairs s (Ok qs) → ps ≡ qs
 one_reading s ps qs a b =
     let same = one_block (lines s) a.0 b.0 a.1 b.1 a.2 b.2 in
     one_list b.0 b.1 ps qs (subst (λ (k : ℕ). GivePairs k b.1 ps) same.0 (subst (λ (ls : List (List ℕ)). GivePairs a.0 ls ps) same.1 a.3)) b.3

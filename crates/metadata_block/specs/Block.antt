@@ -14,6 +14,7 @@ use Rattle.metadata_block.specs.declared.meta.RunAt.TheVariants.{Start, End, Idl
 use Rattle.metadata_block.specs.declared.meta.RunAt.{RunAt}
 use Rattle.metadata_block.specs.declared.words.Key.TheVariants as key
 use Rattle.metadata_block.specs.declared.words.Key.{Key}
+use Rattle.url_rules.specs.Patterns.{Rose}
 use Rattle.url_rules.specs.Reads.{ReadsGlob, ReadsPattern, IsRefused}
 use Rattle.url_rules.specs.declared.read.RuleKind.TheVariants as kind
 use Rattle.url_rules.specs.declared.rules.Rule.{Rule}
@@ -143,3 +144,18 @@ FailsBlock before after s (fault.BadRunAt line) = HasBadLine before after s (fau
 FailsBlock before after s (fault.BadGrant line) = HasBadLine before after s (fault.BadGrant line)
 FailsBlock before after s (fault.BadRule line) = HasBadLine before after s (fault.BadRule line)
 FailsBlock before after s fault.NoMemory = ⊤
+
+-- the text has this fault, and neither memory nor the size of a regular expression is its cause
+pub record HasFault (s : List ℕ) (f : MetaFault) : Type 0 where
+  pub before : ℕ
+  pub after : ℕ
+  pub not_size : Rose before after → ⊥
+  pub not_memory : f ≢ fault.NoMemory
+  pub fails : FailsBlock before after s f
+
+-- ---- what stands after a fault
+
+-- the count of regular expressions that were too big is as before, but for a refused rule, where it may have risen by one
+abbrev pub KeepsCount : ℕ → ℕ → MetaFault → Type 0
+KeepsCount before after (fault.BadRule line) = (after ≡ before) ⊎ Rose before after
+KeepsCount before after f = after ≡ before

@@ -4,4 +4,5 @@ pub mod Block
 pub mod BlockModel
 pub mod Lines
 pub mod LinesModel
+pub mod Same
 pub mod Selection

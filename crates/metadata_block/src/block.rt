@@ -2,7 +2,7 @@
 ghost use Rattle.std.specs.Prelude.{◌≡◌, ◌≢◌, ◌⊎◌, ℕ, List, [], ◌∷◌, ◌++◌, ◌≤◌, ◌↔◌, length, encode_utf8_all, IsTrue, IfOk, IfErr, OnOk, Ok, Err};
 ghost use Rattle.std.specs.List.{All};
 ghost use Rattle.base_text.specs.declared.text.TheConstants.{SOURCE_LIMIT};
-ghost use Rattle.metadata_block.specs.Block.{Agrees, IsBadGrant, Sets, Takes, TakesAll, Refuses, FailsAt, Fails, nothing, ReadsBlock, FailsBlock};
+ghost use Rattle.metadata_block.specs.Block.{Agrees, IsBadGrant, Sets, Takes, TakesAll, Refuses, FailsAt, Fails, KeepsCount, nothing, ReadsBlock, FailsBlock};
 ghost use Rattle.metadata_block.specs.BlockModel.{AgreesFirst, AreAlike, rule_fault};
 ghost use Rattle.metadata_block.specs.Lines.{IsShort, ReadsPairs};
 ghost use Rattle.url_rules.specs.Reads.{ReadsRule, IsRefused};
@@ -117,6 +117,7 @@ fn rule_of<P: Patterns>(
         (P.refusals patterns.new) kind (encode_utf8_all pair.now.value))) }
     ensures count { P.refusals patterns.old ≤ P.refusals patterns.new }
     ensures same { OnOk result (P.refusals patterns.new ≡ P.refusals patterns.old) }
+    ensures kept { IfErr result (KeepsCount (P.refusals patterns.old) (P.refusals patterns.new)) }
 {
     match read_rule(alloc, patterns, kind, pair.value.as_str()) {
         Ok(rule) => Ok(rule),
@@ -139,6 +140,7 @@ fn take_known<P: Patterns>(
         (P.refusals patterns.old) (P.refusals patterns.new) meta.old pair.now f) }
     ensures count { P.refusals patterns.old ≤ P.refusals patterns.new }
     ensures same { OnOk result (P.refusals patterns.new ≡ P.refusals patterns.old) }
+    ensures kept { IfErr result (KeepsCount (P.refusals patterns.old) (P.refusals patterns.new)) }
 {
     match key {
         Key::Name => {
@@ -192,6 +194,7 @@ fn take_pair<P: Patterns>(
         (P.refusals patterns.old) (P.refusals patterns.new) meta.old pair.now f) }
     ensures count { P.refusals patterns.old ≤ P.refusals patterns.new }
     ensures same { OnOk result (P.refusals patterns.new ≡ P.refusals patterns.old) }
+    ensures kept { IfErr result (KeepsCount (P.refusals patterns.old) (P.refusals patterns.new)) }
 {
     match key_of(pair.key.as_str()) {
         Some(key) => take_known(alloc, patterns, key, pair, meta),
@@ -213,6 +216,7 @@ fn take_pairs<P: Patterns>(
         (P.refusals patterns.old) (P.refusals patterns.new) pairs.now meta.old f) }
     ensures count { P.refusals patterns.old ≤ P.refusals patterns.new }
     ensures same { OnOk result (P.refusals patterns.new ≡ P.refusals patterns.old) }
+    ensures kept { IfErr result (KeepsCount (P.refusals patterns.old) (P.refusals patterns.new)) }
 {
     for pair in pairs {
         take_pair(alloc, patterns, pair, meta)?;
@@ -251,13 +255,15 @@ fn empty_text(alloc: Global) -> Mem<Text>
 ///
 /// `NoBlock` and `NoEnd` exactly where no line starts the block, or none after that ends it. Else `BadRunAt`, `BadGrant`
 /// or `BadRule` with the first line that is refused, the last only where [`read_rule`] refuses its value. Else
-/// `NoName`. The count of regular expressions that were too big never falls, and is as before after `Ok`.
+/// `NoName`. The count of regular expressions that were too big is as before, but for `BadRule`, where it rises by one
+/// if the value was refused for its size.
 pub fn read_block<P: Patterns>(alloc: Global, patterns: &mut P, s: &str) -> Result<Meta, MetaFault>
     requires { length s.now ≤ SOURCE_LIMIT }
     ensures ok { IfOk result (ReadsBlock s.now) }
     ensures err { IfErr result (FailsBlock (P.refusals patterns.old) (P.refusals patterns.new) s.now) }
     ensures count { P.refusals patterns.old ≤ P.refusals patterns.new }
     ensures same { OnOk result (P.refusals patterns.new ≡ P.refusals patterns.old) }
+    ensures kept { IfErr result (KeepsCount (P.refusals patterns.old) (P.refusals patterns.new)) }
 {
     let pairs = match read_pairs(alloc, s) {
         Ok(pairs) => pairs,

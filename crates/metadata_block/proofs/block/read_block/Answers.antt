@@ -4,7 +4,7 @@ use Rattle.metadata_block.specs.declared.lines.Pair.{Pair}
 use Rattle.metadata_block.specs.declared.meta.Meta.{Meta}
 use Rattle.metadata_block.specs.declared.block.MetaFault.TheVariants.{NoMemory}
 use Rattle.metadata_block.specs.Lines.{IsShort}
-use Rattle.metadata_block.specs.Block.{Fails, FailsBlock, nothing}
+use Rattle.metadata_block.specs.Block.{Fails, FailsBlock, KeepsCount, nothing}
 use Rattle.metadata_block.specs.BlockModel.{AreAlike}
 use Rattle.metadata_block.proofs.Taking.{carried, pairs_short, bad_line}
 use Rattle.metadata_block.proofs.block.read_block.Goals as goal
@@ -26,3 +26,7 @@ returns-in_err-take_pairs-clause-err g c =
     subst (λ (m : Meta). (f ≡ NoMemory) ⊎ Fails before after c.in-Ok.pairs.items m f) c.in_ok-meta.ensures
     (subst (λ (ps : List Pair). (f ≡ NoMemory) ⊎ Fails before after ps c.in_ok-meta.meta f) c.as_slice.ensures.value c.in_err-take_pairs.ensures.err) in
     carried c.from_residual-in_err-take_pairs.result f (FailsBlock before after c.args.s.now) c.from_residual-in_err-take_pairs.ensures.1 (bad_line before after c.args.s.now c.in-Ok.pairs.items f c.in-Ok.ensures.ok fails)
+
+pub returns-in_err-take_pairs-clause-kept : goal.returns-in_err-take_pairs-clause-kept
+returns-in_err-take_pairs-clause-kept g c =
+    carried c.from_residual-in_err-take_pairs.result c.in_err-take_pairs.field-0.0 (KeepsCount (g.P.Patterns.refusals c.args.patterns.now) (g.P.Patterns.refusals c.take_pairs.new.patterns)) c.from_residual-in_err-take_pairs.ensures.1 c.in_err-take_pairs.ensures.kept

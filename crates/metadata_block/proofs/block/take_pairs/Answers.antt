@@ -1,8 +1,9 @@
 use Rattle.std.proofs.Common.{arith, sym, ◌∙◌, ◌≡◌, ◌⊎◌, inl, inr}
 use Rattle.metadata_block.specs.declared.block.MetaFault.{MetaFault}
 use Rattle.metadata_block.specs.declared.block.MetaFault.TheVariants.{NoMemory}
-use Rattle.metadata_block.specs.Block.{Fails}
+use Rattle.metadata_block.specs.Block.{Fails, KeepsCount}
 use Rattle.metadata_block.proofs.Alike.{takes_alike}
+use Rattle.metadata_block.proofs.Counts.{kept_since}
 use Rattle.metadata_block.proofs.Taking.{carried, take_more, fail_more, fail_here, take_end}
 use Rattle.metadata_block.proofs.block.take_pairs.Goals as goal
 
@@ -20,6 +21,13 @@ returns-in_err-take_pair-clause-err g c =
 
 pub returns-in_err-take_pair-clause-count : goal.returns-in_err-take_pair-clause-count
 returns-in_err-take_pair-clause-count g c = omega (arith, c.loop-pair.invariant.same, c.take_pair.ensures.count)
+
+pub returns-in_err-take_pair-clause-kept : goal.returns-in_err-take_pair-clause-kept
+returns-in_err-take_pair-clause-kept g c =
+    let before = g.P.Patterns.refusals c.args.patterns.now in
+    let after = g.P.Patterns.refusals c.take_pair.new.patterns in
+    let f = c.in_err-take_pair.field-0.0 in
+    carried c.from_residual.result f (KeepsCount before after) c.from_residual.ensures.1 (kept_since before (g.P.Patterns.refusals c.loop-pair.patterns) after f c.loop-pair.invariant.same c.in_err-take_pair.ensures.kept)
 
 pub loop-pair-preserved : goal.loop-pair-preserved
 loop-pair-preserved g c =
