@@ -27,11 +27,11 @@ returns c = record {
   numbers = (23, refl, refl, refl);
   booleans = (25, refl, refl, refl);
   errors = (46, refl, refl, refl);
-  documents = (78, refl, refl, refl);
-  elements = (80, refl, refl, refl);
-  character_data = (82, refl, refl, refl);
-  windows = (84, refl, refl, refl);
-  events = (86, refl, refl, refl);
+  documents = (82, refl, refl, refl);
+  elements = (84, refl, refl, refl);
+  character_data = (86, refl, refl, refl);
+  windows = (88, refl, refl, refl);
+  events = (90, refl, refl, refl);
   for_each = refl;
   join = refl;
 }
