@@ -1,6 +1,6 @@
 -- What a userscript does with another's objects, computed by the definitions alone. It meets one as the detail of an event, the first thing that
 -- it meets after the window.
-use Rattle.std.specs.Prelude.{ℕ, List, [], ◌∷◌, ◌++◌, true, false, pos, codes}
+use Rattle.std.specs.Prelude.{ℕ, List, [], ◌∷◌, ◌++◌, false, pos, codes}
 use Rattle.base_text.specs.declared.operators.UnaryOp.TheVariants as unary
 use Rattle.door.specs.declared.values.TheConstants.{PAGE}
 use Rattle.door.specs.declared.values.Actor.{Actor}
