@@ -23,7 +23,7 @@ use Rattle.js_semantics.specs.Evaluator.{Evaluator, choose, error_cell, fails_by
 use Rattle.js_semantics.specs.Evaluator as ev
 use Rattle.js_semantics.specs.Faults.{Fault, fitting, refusal_fault}
 use Rattle.js_semantics.specs.Intrinsics.{Setup, fresh}
-use Rattle.js_semantics.specs.Machine.{Machine, MetThing, Native, Own, Thing, Value, Refers, Property, Accessor, global_in, global_of, thing_at, undefined}
+use Rattle.js_semantics.specs.Machine.{Machine, MetThing, Native, Own, Reference, Thing, Value, Refers, Property, Accessor, global_in, global_of, thing_at, undefined}
 use Rattle.js_semantics.specs.Meaning.{evaluator, at_top, thrown_by_form}
 use Rattle.js_semantics.specs.Meetings.{met_again, met_next, met_row, met_within, misfit}
 use Rattle.js_semantics.specs.Members.{Stands, found, read_row, reading}
@@ -74,9 +74,10 @@ refused_alike setup k least c d reason m f h s r = thrown_alike setup k least c 
 pub name_found : (e : Evaluator) (name : List ℕ) (p : Property) (m : Machine) (f : ℕ) (d : ev.Cont) → found m (global_of m) name ≡ Stands p
     → name_row e missing_throws name at_top m f d ≡ read_row e (Refers (global_of m)) (Stands p) m f d
 name_found e name p m f d known =
+    let global : Reference = global_of m in
     ap (λ b. bound_name_row e name (missing_throws name) b m f d) (bound_none (length m.scopes + 1) m name)
-    ∙ find_stands (reading name) (global_of m) name (λ x m f. global_name_row e name (missing_throws name) x m f d) d m f p known
-    ∙ find_stands (reading name) (global_of m) name (λ x m f. read_row e (Refers (global_of m)) x m f d) d m f p known
+    ∙ find_stands (reading name) global name (λ x m f. global_name_row e name (missing_throws name) x m f d) d m f p known
+    ∙ find_stands (reading name) global name (λ x m f. read_row e (Refers global) x m f d) d m f p known
 
 pub native_called : (n : ℕ) (place : ℕ) (builtin : Builtin) (this : Value) (values : List Value) (m : Machine) (f : ℕ) (d : ev.Cont) → form_at m.cells place ≡ Some (Native builtin)
     → (evaluator (suc n)).call (Refers (Own place)) this values m f d ≡ native_row (evaluator n) builtin this values m f d

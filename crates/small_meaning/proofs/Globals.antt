@@ -27,7 +27,7 @@ clash x e f = cc
 
 found_defined : (slots : List Slot) (own key : List ℕ) (p : Property) → property_in (defined_in slots own p) key ≡ (if bytes_eq own key then Some p else property_in slots key)
 found_defined [] own key p = refl
-found_defined (slot ∷ slots) own key p = by (bytes_eq slot.key own) refl
+found_defined (slot ∷ slots) own key p = by (bytes_eq slot.key own) refl (found_defined slots own key p)
   where
     hit : (x y : Bool) → y ≡ x → (if x then Some p else property_in slots key) ≡ (if x then Some p else (if y then Some slot.property else property_in slots key))
     hit true y e = refl
@@ -41,11 +41,11 @@ found_defined (slot ∷ slots) own key p = by (bytes_eq slot.key own) refl
     pass false true rest other a b e = refl
     pass false false rest other a b e = e
 
-    by : (there : Bool) → bytes_eq slot.key own ≡ there
+    by : (there : Bool) → bytes_eq slot.key own ≡ there → property_in (defined_in slots own p) key ≡ (if bytes_eq own key then Some p else property_in slots key)
         → property_in (if there then record { key = own; property = p } ∷ slots else slot ∷ defined_in slots own p) key
         ≡ (if bytes_eq own key then Some p else (if bytes_eq slot.key key then Some slot.property else property_in slots key))
-    by true e = hit (bytes_eq own key) (bytes_eq slot.key key) (ap (λ x. bytes_eq x key) (same slot.key own e))
-    by false e = pass (bytes_eq own key) (bytes_eq slot.key key) (property_in (defined_in slots own p) key) e refl refl (found_defined slots own key p)
+    by true e rest = hit (bytes_eq own key) (bytes_eq slot.key key) (ap (λ x. bytes_eq x key) (same slot.key own e))
+    by false e rest = pass (bytes_eq own key) (bytes_eq slot.key key) (property_in (defined_in slots own p) key) e refl refl rest
 
 either : (x : Bool) (p : Option Property) → p ≡ (if x then p else p)
 either true p = refl
