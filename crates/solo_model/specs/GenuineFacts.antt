@@ -10,7 +10,7 @@ use Rattle.door.specs.declared.values.Value.{Value}
 use Rattle.door.specs.declared.values.Value.TheVariants as value
 use Rattle.door.specs.declared.members.Member.TheVariants as m
 use Rattle.door.specs.declared.requests.Request.{Request}
-use Rattle.door.specs.declared.requests.Request.TheVariants.{Native, Peek, Reach}
+use Rattle.door.specs.declared.requests.Request.TheVariants.{Native, Peek, PeekKeys, Reach}
 use Rattle.door.specs.declared.requests.ReachOp.{ReachOp}
 use Rattle.door.specs.declared.requests.ReachOp.TheVariants as reach
 use Rattle.door.specs.declared.requests.ServeOp.TheVariants as serve
@@ -35,7 +35,7 @@ use Rattle.solo_model.specs.NextMark.{Exactly, ByActor, Nothing, Allows, IsRetur
 use Rattle.solo_model.specs.Openings.{has_opened}
 use Rattle.solo_model.specs.Acts.{Setups, setups_of}
 use Rattle.solo_model.specs.MarkValues.{may_name_all}
-use Rattle.solo_model.specs.Genuine.{IsTrueAfter, IsFitLook, has_xray, true_answer}
+use Rattle.solo_model.specs.Genuine.{IsTrueAfter, has_xray, true_answer}
 use Rattle.solo_model.specs.WaysOut.{IsWayOut}
 use Rattle.solo_model.specs.RunFacts.{actor, element, event, appends, back, script_at, title_page, title_journal}
 
@@ -133,6 +133,9 @@ own i = value.Cell (actor i) 301 shape.Plain false
 abbrev function_of : ℕ → Value
 function_of i = value.Cell (actor i) 302 shape.Function false
 
+abbrev list_of : ℕ → Value
+list_of i = value.Cell (actor i) 303 shape.Array false
+
 abbrev of_page : ℕ → Value
 of_page place = value.Cell (actor 1) place shape.Plain true
 
@@ -160,6 +163,10 @@ serves i owner v = mark.Serve (actor i) (actor owner) v (serve.Get (codes "k"))
 
 abbrev reaches : ℕ → ReachOp → Answer → Mark
 reaches i operation a = mark.Ask (actor i) (Reach operation) a
+
+-- a way out that was stopped has opened the page
+abbrev opened_page : List Mark
+opened_page = reaches 2 (reach.Waive window) answer.Stopped ∷ []
 
 abbrev is_open : List Mark → ℕ → Bool
 is_open marks i = has_opened (zone_of company) (actor i) marks
@@ -229,7 +236,15 @@ pub record GenuineFacts : Type 0 where
   pub not_denied : IsTrueIn [] (looks 2 1 answer.Denied) → ⊥
   pub denied : IsTrueIn (gives 3 ∷ []) (looks 2 3 answer.Denied)
   pub not_shown : IsTrueIn (gives 3 ∷ []) (looks 2 3 answer.Absent) → ⊥
-  pub no_cell_of_the_host : IsFitLook (stage_at 0) (actor 2) (Peek (actor 1) 301 (codes "k")) (tells (value.Cell the_host 9 shape.Plain false)) → ⊥
+  -- a look fits the table: it tells no cell of the host, and is none at the host, at the asker itself, or by a key that is too long
+  pub no_cell_of_the_host : IsTrueIn [] (looks 2 1 (tells (value.Cell the_host 9 shape.Plain false))) → ⊥
+  pub no_look_at_the_host : IsTrueIn [] (mark.Ask (actor 2) (PeekKeys the_host 1) answer.Denied) → ⊥
+  pub no_look_at_itself : IsTrueIn [] (looks 2 2 answer.Denied) → ⊥
+  -- what a look tells is held by the owner: an open page shows no object that a closed script kept, and one that was given away
+  pub kept_from_page : IsTrueIn opened_page (looks 3 1 (tells (own 3))) → ⊥
+  pub given_to_page : IsTrueIn (gives 3 ∷ opened_page) (looks 3 1 (tells (own 3)))
+  -- the host builds with no cell of its own
+  pub no_cell_built : IsTrueIn [] (mark.Build (Native m.WindowSetTimeout the_window (value.Cell the_host 5 shape.Function false ∷ value.Undefined ∷ []))) → ⊥
   -- an object of another closed script is named where its owner gave it away; of the page's this isn't asked
   pub named : names [] 2 3 ∷ names (gives 3 ∷ []) 2 3 ∷ names (gives 2 ∷ []) 2 3 ∷ names [] 2 1 ∷ names [] 3 3 ∷ [] ≡ false ∷ true ∷ false ∷ true ∷ true ∷ []
   -- a service is asked of another actor, on what is that one's
@@ -264,6 +279,21 @@ pub record WaysOutFacts : Type 0 where
   pub foreign : IsWayOut (actor 2) (clones (of_page 5) true true) (refuses (codes "IsForeign at "))
   pub copied : IsWayOut (actor 2) (clones (own 2) false false) (tells (of_page 400))
   pub inside : IsWayOut (actor 2) (clones (own 2) false false) (refuses (codes "IsFunction at .a[1]"))
+  -- the path into an array is cut in no step, and what the options allow isn't refused
+  pub in_array : IsWayOut (actor 2) (clones (list_of 2) false false) (refuses (codes "IsThing at [12].w"))
+  pub no_key_in_array : IsWayOut (actor 2) (clones (list_of 2) false false) (refuses (codes "IsThing at .w")) → ⊥
+  pub no_place_in_plain : IsWayOut (actor 2) (clones (own 2) false false) (refuses (codes "IsThing at [1]")) → ⊥
+  pub functions_allowed : IsWayOut (actor 2) (clones (own 2) true false) (refuses (codes "IsFunction at .f")) → ⊥
+  pub things_allowed : IsWayOut (actor 2) (clones (own 2) false true) (refuses (codes "IsThing at .w")) → ⊥
+  -- a scope comes first, and one that isn't denied is no reason
+  pub scope_first : IsWayOut (actor 2) (reach.Clone (function_of 2) value.Null value.Undefined false false) (refuses (codes "ScopeDenied"))
+  pub scope_given : IsWayOut (actor 2) (clones (own 2) false false) (refuses (codes "ScopeDenied")) → ⊥
+  pub not_created : IsWayOut (actor 2) (reach.CreateIn value.Null value.Undefined) (refuses (codes "ScopeDenied"))
+  -- an object of the page is waived, and the waiver of a primitive or an own object is itself; stopped ones tell nothing
+  pub waives_cell : IsTrueIn [] (reaches 2 (reach.Waive (value.Cell (actor 1) 5 shape.Plain false)) (tells (of_page 5)))
+  pub own_again : IsWayOut (actor 2) (reach.Unwaive (own 2)) (tells (own 2))
+  pub text_again : IsWayOut (actor 2) (reach.Unwaive (value.Str (codes "t"))) (tells (value.Str (codes "t")))
+  pub stopped : IsTrueIn [] (reaches 2 (clones (own 2) false false) answer.Stopped)
   pub not_plain : IsWayOut (actor 2) (clones (own 2) false false) (tells (own 2)) → ⊥
   -- a way out opens the page and its script, and so does the entry of a script that runs among the page's own
   pub opened : is_open (reaches 2 (reach.Waive window) answer.Stopped ∷ []) 1 ∷ is_open (reaches 2 (reach.Waive window) answer.Stopped ∷ []) 2

@@ -87,6 +87,11 @@ abbrev pub answer_objects : Request → Answer → List Object
 answer_objects (Native member thing arguments) a = []
 answer_objects request a = objects_in (answer_values a)
 
+-- who holds what an answer names: of a look it is the owner of what is looked at
+abbrev pub answerer : Actor → Request → Actor
+answerer i (Peek owner place key) = owner
+answerer i request = i
+
 -- its owner made an event that carries the object: no closed script gives one away in another way
 abbrev pub gives_away : Object → Mark → Bool
 gives_away object (Ask i (Native NewCustomEvent thing arguments) a) = is_actor i object.owner && list_any (is_object object) (objects_in arguments)

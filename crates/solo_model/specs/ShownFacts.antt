@@ -22,7 +22,7 @@ use Rattle.js_semantics.specs.Machine.{Machine, Cell, Plain, Array, Own, Slot, D
 use Rattle.js_semantics.specs.Intrinsics.{Setup, fresh}
 use Rattle.js_semantics.specs.Solo.{Dispatches, Leaves}
 use Rattle.solo_model.specs.Shown.{peeked_answer, peeked_keys_answer}
-use Rattle.solo_model.specs.ActorView.{Entered, Asked, Said, Returned, Peeked, view_of}
+use Rattle.solo_model.specs.ActorView.{Entered, Asked, Said, Returned, view_of}
 use Rattle.solo_model.specs.ViewDeeds.{Says, Backs, Enters, deeds_of, shows_of}
 
 -- ---- an object of the page
@@ -112,8 +112,8 @@ pub record ShownFacts : Type 0 where
       ∷ Asked (Native m.WindowSetTimeout the_window (callback the_host ∷ door.Undefined ∷ [])) (answer.Value (door.Number (pos 1)))
       ∷ Asked (Native m.EventDetail (event 1) []) (answer.Value (door.Cell page 0 shape.Plain false))
       ∷ Asked (Peek page 0 (codes "a")) (answer.Value (door.Number (pos 1))) ∷ Said (Leaves Done 4) ∷ []
-  -- the page sees the look at its object alone, and another script nothing
-  pub owner_view : view_of page journal ≡ Peeked 300 (codes "a") (answer.Value (door.Number (pos 1))) ∷ []
+  -- the page sees nothing of it, not even the look at its object, and another script nothing
+  pub owner_view : view_of page journal ≡ []
   pub other_view : view_of other journal ≡ []
   -- a refused dispatch and one that isn't are one deed; what comes back differs
   pub same_deeds : deeds_of (view_of script (starts ∷ refused ∷ leaves ∷ [])) ≡ deeds_of (view_of script (starts ∷ dispatched ++ leaves ∷ []))

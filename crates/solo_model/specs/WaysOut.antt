@@ -1,6 +1,7 @@
 -- What a request for a way out is answered, as far as its own values decide it (MDN, cloneInto, exportFunction, createObjectIn, waivers; the
 -- texts of the refusals are this project's own).
-use Rattle.std.specs.Prelude.{◌≡◌, ◌⊎◌, ◌≤◌, ◌&&◌, ◌||◌, ℕ, Bool, true, false, not, List, [], ◌∷◌, ◌++◌, codes, length}
+use Rattle.std.specs.Prelude.{◌≡◌, ◌⊎◌, ◌&&◌, ◌||◌, ℕ, Bool, true, false, not, List, [], ◌∷◌, ◌++◌, codes, take, if◌then◌else◌}
+use Rattle.std.specs.Fmt.{decimal}
 use Rattle.door.specs.declared.values.Actor.{Actor}
 use Rattle.door.specs.declared.values.Shape.{Shape}
 use Rattle.door.specs.declared.values.Shape.TheVariants as shape
@@ -12,7 +13,7 @@ use Rattle.door.specs.declared.requests.ReachOp.TheVariants as reach
 use Rattle.door.specs.declared.requests.Answer.{Answer}
 use Rattle.door.specs.declared.requests.Answer.TheVariants.{Value as ValueAnswer, Throw, Stopped}
 use Rattle.dom_semantics.specs.Things.{is_actor, is_thing, the_window}
-use Rattle.dom_semantics.specs.Crossings.{SCOPE_DENIED, is_in, walk_refusals}
+use Rattle.dom_semantics.specs.Crossings.{SCOPE_DENIED, is_in, begins_step}
 use Rattle.dom_semantics.specs.Fits.{is_function_shape}
 use Rattle.dom_semantics.specs.declared.crossings.TheConstants.{PATH_LIMIT}
 use Rattle.solo_model.specs.Things.{the_page}
@@ -59,33 +60,49 @@ IsOfPage shape answer = (place : ℕ) × (answer ≡ ValueAnswer (value.Cell the
 abbrev pub refused_at : List ℕ → List ℕ → Answer
 refused_at fault path = Throw (Crossing (fault ++ (codes " at " ++ path)))
 
--- the refusal of a value inside the source: its path begins with the way into it
-pub record IsRefusedWithin (way : List ℕ) (answer : Answer) : Type 0 where
+-- the refusals that the options leave: cloned functions and wrapped things are none (MDN, cloneInto, cloneFunctions and wrapReflectors)
+abbrev pub faults_left : (functions reflectors : Bool) → List (List ℕ)
+faults_left functions reflectors =
+    (if functions then [] else codes "IsFunction" ∷ []) ++ ((if reflectors then [] else codes "IsThing" ∷ [])
+    ++ (codes "HasAccessor" ∷ codes "IsForeign" ∷ codes "TooMany" ∷ []))
+
+-- the step from a plain object to the value of a key, and from an array to that of a place
+abbrev pub IsKeyStep : List ℕ → Type 0
+IsKeyStep step = (key : List ℕ) × (step ≡ codes "." ++ key)
+
+abbrev pub IsPlaceStep : List ℕ → Type 0
+IsPlaceStep step = (place : ℕ) × (step ≡ codes "[" ++ (decimal place ++ codes "]"))
+
+-- the refusal of a value inside the source: its path begins with a step into it, and is cut at its limit
+pub record IsRefusedWithin (faults : List (List ℕ)) (IsStep : List ℕ → Type 0) (answer : Answer) : Type 0 where
   pub fault : List ℕ
+  pub step : List ℕ
   pub rest : List ℕ
-  pub known : is_in walk_refusals fault ≡ true
-  pub short : length (way ++ rest) ≤ PATH_LIMIT
-  pub same : answer ≡ refused_at fault (way ++ rest)
+  pub into : IsStep step
+  pub onward : begins_step rest ≡ true
+  pub known : is_in faults fault ≡ true
+  pub same : answer ≡ refused_at fault (take PATH_LIMIT (step ++ rest))
 
 -- an own plain object or array is copied, or refused for what is inside; an own function becomes one of the page where functions are cloned
-abbrev pub IsCloneOf : Shape → (functions : Bool) → Answer → Type 0
-IsCloneOf shape.Plain functions answer = IsOfPage shape.Plain answer ⊎ IsRefusedWithin (codes ".") answer
-IsCloneOf shape.Array functions answer = IsOfPage shape.Array answer ⊎ IsRefusedWithin (codes "[") answer
-IsCloneOf shape.Function true answer = IsOfPage shape.Function answer
-IsCloneOf shape.Function false answer = answer ≡ refused_at (codes "IsFunction") []
-IsCloneOf shape.Error functions answer = answer ≡ refused_at (codes "IsForeign") []
+abbrev pub IsCloneOf : Shape → (functions reflectors : Bool) → Answer → Type 0
+IsCloneOf shape.Plain functions reflectors answer = IsOfPage shape.Plain answer ⊎ IsRefusedWithin (faults_left functions reflectors) IsKeyStep answer
+IsCloneOf shape.Array functions reflectors answer = IsOfPage shape.Array answer ⊎ IsRefusedWithin (faults_left functions reflectors) IsPlaceStep answer
+IsCloneOf shape.Function true reflectors answer = IsOfPage shape.Function answer
+IsCloneOf shape.Function false reflectors answer = answer ≡ refused_at (codes "IsFunction") []
+IsCloneOf shape.Error functions reflectors answer = answer ≡ refused_at (codes "IsForeign") []
 
 -- only own objects are walked
-abbrev pub IsCloneIf : Bool → Shape → (functions : Bool) → Answer → Type 0
-IsCloneIf true shape functions answer = IsCloneOf shape functions answer
-IsCloneIf false shape functions answer = answer ≡ refused_at (codes "IsForeign") []
+abbrev pub IsCloneIf : Bool → Shape → (functions reflectors : Bool) → Answer → Type 0
+IsCloneIf true shape functions reflectors answer = IsCloneOf shape functions reflectors answer
+IsCloneIf false shape functions reflectors answer = answer ≡ refused_at (codes "IsForeign") []
 
 -- a thing becomes the page's where things are wrapped; a primitive is itself
 abbrev pub IsClone : Actor → Value → (functions reflectors : Bool) → Answer → Type 0
 IsClone i (value.Thing thing) functions true answer = answer ≡ ValueAnswer (value.WaivedThing thing)
 IsClone i (value.Thing thing) functions false answer = answer ≡ refused_at (codes "IsThing") []
 IsClone i (value.WaivedThing thing) functions reflectors answer = answer ≡ refused_at (codes "IsForeign") []
-IsClone i (value.Cell owner place shape waived) functions reflectors answer = IsCloneIf (is_actor owner i && not waived) shape functions answer
+IsClone i (value.Cell owner place shape waived) functions reflectors answer = 
+    IsCloneIf (is_actor owner i && not waived) shape functions reflectors answer
 IsClone i source functions reflectors answer = answer ≡ ValueAnswer source
 
 -- ---- each way out

@@ -25,8 +25,8 @@ use Rattle.solo_model.specs.Shown.{peeked_answer}
 use Rattle.solo_model.proofs.facts.truths_are_computed.Goals as goal
 
 -- whether this text is answered
-abbrev tells : List ℕ → Option Answer → Bool
-tells text (Some (ValueAnswer (Str told))) = bytes_eq text told
+abbrev tells : List ℕ → Answer → Bool
+tells text (ValueAnswer (Str told)) = bytes_eq text told
 tells text answer = false
 
 abbrev is_value : Answer → Bool
@@ -48,33 +48,44 @@ unfolding encode_utf8 DEPTH_LIMIT NODE_LIMIT LISTENER_LIMIT TIMER_LIMIT NESTED_D
 returns c = record {
   title_told = refl;
   no_title_yet = refl;
-  wrong_title = λ h. true≢false (ap (tells (codes "Hi")) h.answered);
-  wrong_refusal = λ h. true≢false (ap (tells (codes "Hi")) h.answered);
+  wrong_title = λ h. true≢false (sym (ap (tells (codes "Hi")) h.possible));
+  wrong_refusal = λ h. true≢false (sym (ap (tells (codes "Hi")) h.possible));
   not_granted = refl;
   not_for_page = refl;
   free = refl;
   busy = refl;
   not_while_busy = λ h. true≢false (ap is_some h.free);
-  no_build = λ h. true≢false (sym h);
+  no_build = λ h. true≢false (sym h.1);
   xrays = refl;
   look = record {
-    answered = (
-      record { fits = refl; there = refl },
-      record {
-        denied = refl;
-        told = λ xray closed. record { levels = LEVELS; machine = fresh (setups (actor 1)); back = λ m answer. Stuck; waits = refl; shown = refl };
-      },
-    );
-    named = refl;
+    possible = refl;
+    answered = record {
+      denied = refl;
+      told = λ xray closed. record { levels = LEVELS; machine = fresh (setups (actor 1)); back = λ m answer. Stuck; waits = refl; shown = refl };
+    };
+    names = refl;
+    tells = refl;
   };
-  no_such_value = λ h. no_null (h.answered.1.told refl refl);
-  not_denied = λ h. true≢false h.answered.1.denied;
+  no_such_value = λ h. no_null (h.answered.told refl refl);
+  not_denied = λ h. true≢false h.answered.denied;
   denied = record {
-    answered = (record { fits = refl; there = refl }, record { denied = refl; told = λ xray closed. absurd (true≢false (sym xray)) });
-    named = refl;
+    possible = refl;
+    answered = record { denied = refl; told = λ xray closed. absurd (true≢false (sym xray)) };
+    names = refl;
+    tells = refl;
   };
-  not_shown = λ h. true≢false (sym h.answered.1.denied);
-  no_cell_of_the_host = λ h. true≢false (sym h.fits);
+  not_shown = λ h. true≢false (sym h.answered.denied);
+  no_cell_of_the_host = λ h. true≢false (sym h.possible);
+  no_look_at_the_host = λ h. true≢false (sym h.possible);
+  no_look_at_itself = λ h. true≢false (sym h.possible);
+  kept_from_page = λ h. true≢false (sym h.tells);
+  given_to_page = record {
+    possible = refl;
+    answered = record { denied = refl; told = λ xray closed. absurd (true≢false closed) };
+    names = refl;
+    tells = refl;
+  };
+  no_cell_built = λ h. true≢false (sym h.0);
   named = refl;
   served = record { other = refl; owned = refl; there = refl; keys = refl; named = refl };
   not_on_itself = λ h. true≢false h.other;

@@ -1,5 +1,7 @@
-use Rattle.std.proofs.Common.{ap, arith, refl, sym, true≢false, inl, inr, Bool, true, false, codes}
+use Rattle.std.proofs.Common.{◌≡◌, ◌∙◌, ◌&&◌, ◌||◌, ◌++◌, ap, refl, sym, subst, true≢false, inl, inr, ℕ, Bool, true, false, not, List, [], ◌∷◌, codes, take, length, decimal, bytes_eq, bytes_eq-Decides}
+use Rattle.std.specs.List.{list_all}
 use Rattle.std.specs.Char.{encode_utf8}
+use Rattle.std.specs.Fmt.{digits}
 use Rattle.dom_semantics.specs.Forest.{DEPTH_LIMIT, NODE_LIMIT}
 use Rattle.dom_semantics.specs.Listeners.{LISTENER_LIMIT}
 use Rattle.dom_semantics.specs.Timers.{TIMER_LIMIT}
@@ -8,20 +10,17 @@ use Rattle.dom_semantics.specs.StageOf.{course_from}
 use Rattle.solo_model.specs.Nesting.{progress_from}
 use Rattle.solo_model.specs.Tasks.{TASK_LIMIT}
 use Rattle.door.specs.declared.requests.Answer.{Answer}
-use Rattle.door.specs.declared.requests.Answer.TheVariants.{Value as ValueAnswer}
+use Rattle.door.specs.declared.requests.Answer.TheVariants.{Value as ValueAnswer, Throw}
+use Rattle.door.specs.declared.requests.ErrorKind.TheVariants.{Crossing}
 use Rattle.door.specs.declared.requests.ReachOp.TheVariants.{UnsafeWindow}
-use Rattle.door.specs.declared.values.Shape.TheVariants.{Plain}
+use Rattle.door.specs.declared.values.Shape.TheVariants.{Plain, Array}
 use Rattle.door.specs.declared.values.Value.TheVariants.{Thing, Cell}
-use Rattle.door.specs.declared.zones.Zone.{Zone}
-use Rattle.door.specs.declared.zones.Zone.TheVariants.{Page}
+use Rattle.dom_semantics.specs.Crossings.{is_in}
 use Rattle.dom_semantics.specs.Things.{the_window}
+use Rattle.dom_semantics.specs.declared.crossings.TheConstants.{PATH_LIMIT}
 use Rattle.solo_model.specs.RunFacts.{actor}
-use Rattle.solo_model.specs.WaysOut.{IsWayOutOrStopped, IsCloneOf}
+use Rattle.solo_model.specs.WaysOut.{IsWayOutOrStopped, IsCloneOf, faults_left, refused_at}
 use Rattle.solo_model.proofs.facts.ways_out_are_computed.Goals as goal
-
-abbrev is_page : Zone → Bool
-is_page Page = true
-is_page zone = false
 
 abbrev is_value : Answer → Bool
 is_value (ValueAnswer v) = true
@@ -39,18 +38,89 @@ not_plain_thing : IsWayOutOrStopped (actor 3) UnsafeWindow (ValueAnswer (Thing t
 not_plain_thing (inl h) = true≢false (ap is_plain_thing h)
 not_plain_thing (inr h) = true≢false (ap is_plain_thing h)
 
-not_own : IsCloneOf Plain false (ValueAnswer (Cell (actor 2) 301 Plain false)) → ⊥
+not_own : IsCloneOf Plain false false (ValueAnswer (Cell (actor 2) 301 Plain false)) → ⊥
 not_own (inl h) = true≢false (sym (ap is_waived_value h.1))
 not_own (inr h) = true≢false (ap is_value h.same)
 
+-- ---- refusals that no fault tells
+
+abbrev refused : List ℕ → Answer
+refused text = Throw (Crossing text)
+
+abbrev said : Answer → List ℕ
+said (Throw (Crossing text)) = text
+said answer = []
+
+abbrev begins : List ℕ → List ℕ → Bool
+begins front text = bytes_eq front (take (length front) text)
+
+-- the refusal by this fault begins in another way
+abbrev is_other : (front path fault : List ℕ) → Bool
+is_other front path fault = not (begins front (said (refused_at fault path)))
+
+both : (a b : Bool) → (a && b) ≡ true → (a ≡ true) × (b ≡ true)
+both true b h = (refl, h)
+both false b h = absurd (true≢false (sym h))
+
+chosen : (test : List ℕ → Bool) (f t : List ℕ) (same rest : Bool) → (same ≡ true → f ≡ t) → (same || rest) ≡ true → test t ≡ true → (rest ≡ true → test f ≡ true)
+    → test f ≡ true
+chosen test f t true rest equal h p later = ap test (equal refl) ∙ p
+chosen test f t false rest equal h p later = later h
+
+-- what holds of each of these texts holds of one of them
+one_of : (test : List ℕ → Bool) (f : List ℕ) (texts : List (List ℕ)) → is_in texts f ≡ true → list_all test texts ≡ true → test f ≡ true
+one_of test f [] h all = absurd (true≢false (sym h))
+one_of test f (t ∷ ts) h all =
+    let parts = both (test t) (list_all test ts) all in
+    chosen test f t (bytes_eq f t) (is_in ts f) (bytes_eq-Decides f t).0 h parts.0 (λ later. one_of test f ts later parts.1)
+
+not_refused : (front : List ℕ) (answer : Answer) (faults : List (List ℕ)) (fault path : List ℕ) → begins front (said answer) ≡ true
+    → list_all (is_other front path) faults ≡ true → is_in faults fault ≡ true → answer ≡ refused_at fault path → ⊥
+not_refused front answer faults fault path is none known same =
+    true≢false (sym (ap not (sym is ∙ ap (λ a. begins front (said a)) same) ∙ one_of (is_other front path) fault faults known none))
+
+no_key_in_array : IsCloneOf Array false false (refused (codes "IsThing at .w")) → ⊥
+unfolding encode_utf8
+no_key_in_array (inl h) = true≢false (sym (ap is_value h.1))
+no_key_in_array (inr h) =
+    not_refused (codes "IsThing at .") (refused (codes "IsThing at .w")) (faults_left false false) h.fault
+    (take PATH_LIMIT ((codes "[" ++ (decimal h.into.0 ++ codes "]")) ++ h.rest)) refl refl h.known
+    (h.same ∙ ap (λ s. refused_at h.fault (take PATH_LIMIT (s ++ h.rest))) h.into.1)
+
+no_place_in_plain : IsCloneOf Plain false false (refused (codes "IsThing at [1]")) → ⊥
+unfolding encode_utf8
+no_place_in_plain (inl h) = true≢false (sym (ap is_value h.1))
+no_place_in_plain (inr h) =
+    not_refused (codes "IsThing at [") (refused (codes "IsThing at [1]")) (faults_left false false) h.fault
+    (take PATH_LIMIT ((codes "." ++ h.into.0) ++ h.rest)) refl refl h.known
+    (h.same ∙ ap (λ s. refused_at h.fault (take PATH_LIMIT (s ++ h.rest))) h.into.1)
+
+functions_allowed : IsCloneOf Plain true false (refused (codes "IsFunction at .f")) → ⊥
+unfolding encode_utf8
+functions_allowed (inl h) = true≢false (sym (ap is_value h.1))
+functions_allowed (inr h) =
+    not_refused (codes "IsFu") (refused (codes "IsFunction at .f")) (faults_left true false) h.fault (take PATH_LIMIT (h.step ++ h.rest)) refl refl h.known h.same
+
+things_allowed : IsCloneOf Plain false true (refused (codes "IsThing at .w")) → ⊥
+unfolding encode_utf8
+things_allowed (inl h) = true≢false (sym (ap is_value h.1))
+things_allowed (inr h) =
+    not_refused (codes "IsTh") (refused (codes "IsThing at .w")) (faults_left false true) h.fault (take PATH_LIMIT (h.step ++ h.rest)) refl refl h.known h.same
+
+scope_given : IsCloneOf Plain false false (refused (codes "ScopeDenied")) → ⊥
+unfolding encode_utf8
+scope_given (inl h) = true≢false (sym (ap is_value h.1))
+scope_given (inr h) =
+    not_refused (codes "S") (refused (codes "ScopeDenied")) (faults_left false false) h.fault (take PATH_LIMIT (h.step ++ h.rest)) refl refl h.known h.same
+
 pub returns : goal.returns
-unfolding encode_utf8 DEPTH_LIMIT NODE_LIMIT LISTENER_LIMIT TIMER_LIMIT NESTED_DISPATCH_LIMIT DISPATCH_LIMIT course_from progress_from TASK_LIMIT
+unfolding encode_utf8 DEPTH_LIMIT NODE_LIMIT LISTENER_LIMIT TIMER_LIMIT NESTED_DISPATCH_LIMIT DISPATCH_LIMIT course_from progress_from TASK_LIMIT digits
 returns c = record {
-  unsafe_window = record { answered = record { may = record { zone = refl; granted = refl; fits = refl; there = refl }; told = inr refl; fits = refl }; named = refl };
-  not_granted = λ h. true≢false (sym h.answered.may.granted);
-  not_waived = λ h. not_plain_thing h.answered.told;
-  not_for_page = λ h. true≢false (ap is_page h.answered.may.zone);
-  not_of_own = λ h. true≢false (sym h.answered.may.fits);
+  unsafe_window = record { possible = refl; answered = (refl, inr refl); names = refl; tells = refl };
+  not_granted = λ h. true≢false (sym h.possible);
+  not_waived = λ h. not_plain_thing h.answered.1;
+  not_for_page = λ h. true≢false (sym h.possible);
+  not_of_own = λ h. true≢false (sym h.answered.0);
   xray_again = refl;
   not_callable = refl;
   not_own = refl;
@@ -66,7 +136,19 @@ returns c = record {
   thing_wrapped = refl;
   foreign = refl;
   copied = inl (400, refl);
-  inside = inr (record { fault = codes "IsFunction"; rest = codes "a[1]"; known = refl; short = omega arith; same = refl });
+  inside = inr (record { fault = codes "IsFunction"; step = codes ".a"; rest = codes "[1]"; into = (codes "a", refl); onward = refl; known = refl; same = refl });
+  in_array = inr (record { fault = codes "IsThing"; step = codes "[12]"; rest = codes ".w"; into = (12, refl); onward = refl; known = refl; same = refl });
+  no_key_in_array = no_key_in_array;
+  no_place_in_plain = no_place_in_plain;
+  functions_allowed = functions_allowed;
+  things_allowed = things_allowed;
+  scope_first = refl;
+  scope_given = scope_given;
+  not_created = refl;
+  waives_cell = record { possible = refl; answered = (refl, inr refl); names = refl; tells = refl };
+  own_again = refl;
+  text_again = refl;
+  stopped = record { possible = refl; answered = (refl, inl refl); names = refl; tells = refl };
   not_plain = not_own;
   opened = refl;
   entered = refl;
