@@ -9,3 +9,4 @@ pub mod OneEntry
 pub mod OneName
 pub mod Growing
 pub mod Alone
+pub mod Ends

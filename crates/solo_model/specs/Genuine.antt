@@ -1,12 +1,13 @@
 -- Journals in which all that marks say is true; this project's own in form.
-use Rattle.std.specs.Prelude.{◌≡◌, ◌&&◌, ℕ, Bool, true, false, not, List, [], ◌∷◌, ◌++◌, option_map, Option, Some, None}
+use Rattle.std.specs.Prelude.{◌≡◌, ◌&&◌, ℕ, Bool, true, false, not, List, [], ◌∷◌, ◌++◌, None}
+use Rattle.door.specs.declared.values.TheConstants.{PAGE}
 use Rattle.door.specs.declared.values.Actor.{Actor}
 use Rattle.door.specs.declared.values.Kind.TheVariants.{Event as EventKind}
 use Rattle.door.specs.declared.values.Thing.{Thing}
 use Rattle.door.specs.declared.values.Look.{Look}
 use Rattle.door.specs.declared.values.Look.TheVariants.{Xray}
 use Rattle.door.specs.declared.values.Value.{Value}
-use Rattle.door.specs.declared.values.Value.TheVariants.{Thing as ThingValue, WaivedThing, Cell}
+use Rattle.door.specs.declared.values.Value.TheVariants.{Thing as ThingValue, Cell}
 use Rattle.door.specs.declared.members.Member.TheVariants.{EventTargetDispatchEvent}
 use Rattle.door.specs.declared.requests.Request.{Request}
 use Rattle.door.specs.declared.requests.Request.TheVariants.{Native, Peek, PeekKeys, Reach}
@@ -19,17 +20,15 @@ use Rattle.door.specs.declared.marks.Mark.{Mark}
 use Rattle.door.specs.declared.marks.Mark.TheVariants.{Build, Ask, Dispatch, Serve, Served}
 use Rattle.door.specs.Looks.{look_of}
 use Rattle.dom_semantics.specs.Things.{thing_of, is_actor}
-use Rattle.dom_semantics.specs.Fits.{is_request}
-use Rattle.dom_semantics.specs.HostCells.{request_has_owners}
+use Rattle.dom_semantics.specs.Fits.{is_request, is_serve}
+use Rattle.dom_semantics.specs.HostCells.{mark_has_owners}
 use Rattle.dom_semantics.specs.TargetReplies.{dispatch_refusal}
-use Rattle.dom_semantics.specs.Stage.{Stage, Origin, Setting}
+use Rattle.dom_semantics.specs.Stage.{Stage, Setting}
 use Rattle.dom_semantics.specs.StageOf.{stage_of}
-use Rattle.dom_semantics.specs.Reply.{Reply}
-use Rattle.dom_semantics.specs.Truth.{IsTrueBuild, MayAnswer, reply_to, has_all}
+use Rattle.dom_semantics.specs.Truth.{IsTrueBuild, MayAnswer, has_all}
 use Rattle.js_semantics.specs.Machine.{Machine}
 use Rattle.js_semantics.specs.Solo.{Program, Awaits}
 use Rattle.js_semantics.specs.Entries.{beginning, enters}
-use Rattle.solo_model.specs.Things.{the_page}
 use Rattle.solo_model.specs.Acts.{Setups, zones_of}
 use Rattle.solo_model.specs.ActorView.{met_of, view_of}
 use Rattle.solo_model.specs.MachineStates.{Reaches}
@@ -38,12 +37,6 @@ use Rattle.solo_model.specs.Naming.{named_answer}
 use Rattle.solo_model.specs.Openings.{IsClosed}
 use Rattle.solo_model.specs.Shown.{peeked_answer, peeked_keys_answer}
 use Rattle.solo_model.specs.WaysOut.{IsWayOutOrStopped}
-
--- ---- members
-
--- the answer that a member's request truly has; none where it has no reply
-abbrev pub true_answer : Origin → Stage → Actor → Request → Option Answer
-true_answer origin s i request = option_map (λ (reply : Reply). reply.answer) (reply_to origin s i request)
 
 -- ---- looks
 
@@ -76,7 +69,7 @@ pub record IsTrueLook (setups : Setups) (before : List Mark) (i owner : Actor) (
 -- an object is asked for without its Xray: a thing, or an object of the page (MDN, Xray vision, wrappedJSObject)
 abbrev pub is_waivable : Value → Bool
 is_waivable (ThingValue thing) = true
-is_waivable (Cell owner place shape waived) = is_actor owner the_page && not waived
+is_waivable (Cell owner place shape waived) = is_actor owner PAGE && not waived
 is_waivable v = false
 
 abbrev pub is_reach_request : ReachOp → Bool
@@ -108,17 +101,9 @@ pub record MayDispatch (s : Stage) (i : Actor) (event : ℕ) (target : Thing) : 
   pub there : has_all s target (ThingValue (thing_of EventKind event) ∷ []) ≡ true
   pub free : dispatch_refusal s i event ≡ None
 
--- things are the page's, and a cell is its owner's
-abbrev pub is_owned_by : Actor → Value → Bool
-is_owned_by owner (ThingValue thing) = is_actor owner the_page
-is_owned_by owner (WaivedThing thing) = is_actor owner the_page
-is_owned_by owner (Cell other place shape waived) = is_actor owner other
-is_owned_by owner v = false
-
--- an actor has another serve on what is that one's
+-- an actor has another serve: it fits the table, and what it names is there
 pub record IsTrueServe (setups : Setups) (s : Stage) (before : List Mark) (i owner : Actor) (v : Value) (operation : ServeOp) : Type 0 where
-  pub other : is_actor owner i ≡ false
-  pub owned : is_owned_by owner v ≡ true
+  pub fits : is_serve i owner v operation ≡ true
   pub there : are_there s (v ∷ serve_values operation) ≡ true
   pub keys : are_short (serve_keys operation) ≡ true
   pub named : may_name_all (zones_of setups) before i (objects_in (v ∷ serve_values operation)) ≡ true
@@ -133,18 +118,22 @@ pub record IsTrueServed (setups : Setups) (s : Stage) (before : List Mark) (i : 
 
 -- what a mark says is true after the marks before it; of turns, entries, their ends and what a dispatch gives back the order of marks decides
 abbrev pub IsTrueAfter : Setups → Setting → List Mark → Mark → Type 0
-IsTrueAfter setups setting before (Build request) = (request_has_owners request ≡ true) × IsTrueBuild setting.origin (stage_of setting before) request
+IsTrueAfter setups setting before (Build request) = IsTrueBuild setting.origin (stage_of setting before) request
 IsTrueAfter setups setting before (Ask i request answer) = IsTrueAsk setups setting before i request answer
 IsTrueAfter setups setting before (Dispatch i event target) = MayDispatch (stage_of setting before) i event target
 IsTrueAfter setups setting before (Serve i owner v operation) = IsTrueServe setups (stage_of setting before) before i owner v operation
 IsTrueAfter setups setting before (Served i answer) = IsTrueServed setups (stage_of setting before) before i answer
 IsTrueAfter setups setting before mark = Unit {0}
 
-unfoldable pub AreTrueAfter : Setups → Setting → List Mark → List Mark → Type 0
-AreTrueAfter setups setting before [] = Unit {0}
-AreTrueAfter setups setting before (mark ∷ marks) =
-    IsTrueAfter setups setting before mark × AreTrueAfter setups setting (before ++ mark ∷ []) marks
+-- and nothing that it names is a cell of the host, whose number stands for an actor's own cells in what that one sees
+abbrev pub IsTrueMark : Setups → Setting → List Mark → Mark → Type 0
+IsTrueMark setups setting before mark = IsTrueAfter setups setting before mark × (mark_has_owners mark ≡ true)
+
+unfoldable pub AreTrueMarks : Setups → Setting → List Mark → List Mark → Type 0
+AreTrueMarks setups setting before [] = Unit {0}
+AreTrueMarks setups setting before (mark ∷ marks) =
+    IsTrueMark setups setting before mark × AreTrueMarks setups setting (before ++ mark ∷ []) marks
 
 -- all that the journal says is true
 abbrev pub IsGenuine : Setups → Setting → List Mark → Type 0
-IsGenuine setups setting marks = AreTrueAfter setups setting [] marks
+IsGenuine setups setting marks = AreTrueMarks setups setting [] marks

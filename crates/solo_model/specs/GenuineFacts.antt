@@ -1,6 +1,6 @@
 -- What is true of hand-made journals and what isn't, computed by the definitions alone. The expected values are those of the standards, of MDN's
 -- pages on Xrays and sandboxes, and of the order of marks.
-use Rattle.std.specs.Prelude.{◌≡◌, ℕ, Bool, true, false, List, [], ◌∷◌, ◌++◌, codes, replicate, take, Option, Some, None, pos}
+use Rattle.std.specs.Prelude.{◌≡◌, ℕ, Bool, true, false, List, [], ◌∷◌, ◌++◌, codes, option_map, replicate, take, Option, Some, None, pos}
 use Rattle.std.specs.List.{flat_map}
 use Rattle.door.specs.declared.values.Actor.{Actor}
 use Rattle.door.specs.declared.values.Kind.TheVariants.{Element}
@@ -28,14 +28,16 @@ use Rattle.dom_semantics.specs.Grants.{no_grants}
 use Rattle.dom_semantics.specs.Things.{thing_of, the_window, the_document}
 use Rattle.dom_semantics.specs.Stage.{Stage, Setting}
 use Rattle.dom_semantics.specs.StageOf.{stage_of}
+use Rattle.dom_semantics.specs.Reply.{Reply}
 use Rattle.dom_semantics.specs.TargetReplies.{dispatch_refusal}
-use Rattle.solo_model.specs.Given.{Given, AtEnd, setting_of, zone_of}
+use Rattle.dom_semantics.specs.Truth.{reply_to}
+use Rattle.solo_model.specs.Given.{Given, DocumentEnd, setting_of, zone_of}
 use Rattle.solo_model.specs.Nesting.{Running, Returning, progress_of}
 use Rattle.solo_model.specs.NextMark.{Exactly, ByActor, Nothing, Allows, IsReturn, MayEnd, next_of}
 use Rattle.solo_model.specs.Openings.{has_opened}
 use Rattle.solo_model.specs.Acts.{Setups, setups_of}
 use Rattle.solo_model.specs.MarkValues.{may_name_all}
-use Rattle.solo_model.specs.Genuine.{IsTrueAfter, has_xray, true_answer}
+use Rattle.solo_model.specs.Genuine.{IsTrueAfter, IsTrueMark, has_xray}
 use Rattle.solo_model.specs.WaysOut.{IsWayOut}
 use Rattle.solo_model.specs.RunFacts.{actor, element, event, appends, back, script_at, title_page, title_journal}
 
@@ -52,7 +54,7 @@ stage_at n = stage_of setting (before n)
 
 -- what a request truly is answered after so many marks
 abbrev answered : ℕ → ℕ → Request → Option Answer
-answered n i request = true_answer setting.origin (stage_at n) (actor i) request
+answered n i request = option_map (λ (reply : Reply). reply.answer) (reply_to setting.origin (stage_at n) (actor i) request)
 
 abbrev IsTrue : ℕ → Mark → Type 0
 IsTrue n mark = IsTrueAfter (setups_of title_page) setting (before n) mark
@@ -115,9 +117,9 @@ deep = starts ∷ makes_event 0 ∷ makes_event 1 ∷ makes_event 2 ∷ makes_ev
 -- the third has unsafeWindow, and the last runs among the page's own
 abbrev company : Given
 company = record title_page {
-  scripts = script_at (codes "S") AtEnd
-      ∷ record (script_at (codes "T") AtEnd) { grants = record no_grants { unsafe_window = true } }
-      ∷ record (script_at (codes "U") AtEnd) { grants = record no_grants { no_grant = true } } ∷ [];
+  scripts = script_at (codes "S") DocumentEnd
+      ∷ record (script_at (codes "T") DocumentEnd) { grants = record no_grants { unsafe_window = true } }
+      ∷ record (script_at (codes "U") DocumentEnd) { grants = record no_grants { no_grant = true } } ∷ [];
 }
 
 abbrev pub setups : Setups
@@ -151,8 +153,22 @@ gives i =
 abbrev looks : ℕ → ℕ → Answer → Mark
 looks i owner a = mark.Ask (actor i) (Peek (actor owner) 301 (codes "k")) a
 
+-- the page's timer calls Array, which makes an empty list as the page's first object; and looks at its length
+abbrev made_list : List Mark
+made_list = mark.Enter (actor 1) (entry.Timer 13) ∷ mark.Leave (actor 1) Done 0 ∷ []
+
+abbrev looks_at_length : Answer → Mark
+looks_at_length a = mark.Ask (actor 2) (Peek (actor 1) 300 (codes "length")) a
+
+abbrev no_items : Answer
+no_items = tells (value.Number (pos 0))
+
 abbrev IsTrueIn : List Mark → Mark → Type 0
 IsTrueIn marks mark = IsTrueAfter setups (setting_of company []) marks mark
+
+-- the same, with no cell of the host
+abbrev IsWhole : Mark → Type 0
+IsWhole mark = IsTrueMark setups (setting_of company []) [] mark
 
 -- the actor may name the object of that script
 abbrev names : List Mark → ℕ → ℕ → Bool
@@ -200,8 +216,10 @@ pub record OrderFacts : Type 0 where
   -- nothing comes behind the end
   pub ended : next_of title_page setting title_journal ≡ Nothing
   pub nothing_more : MayCome 25 (mark.Turn task.Load) → ⊥
-  -- only a script's text has faults of syntax
-  pub no_syntax : MayEnd (entry.Timer 300) (Syntax 0 (codes "Unexpected")) → ⊥
+  -- only the text of a page's script has faults of syntax
+  pub syntax : MayEnd (actor 1) (entry.Script (codes "(")) (Syntax 1 (codes "Unexpected"))
+  pub no_syntax : MayEnd (actor 1) (entry.Timer 300) (Syntax 0 (codes "Unexpected")) → ⊥
+  pub no_syntax_of_script : MayEnd (actor 2) (entry.Script (codes "(")) (Syntax 1 (codes "Unexpected")) → ⊥
   -- a service waits for what it is answered, which is stopped just where its entry was
   pub serves : (progress_of called).unfinished ≡ Returning (actor 2) Done ∷ Running (actor 2) (entry.Script (codes "S")) ∷ []
   pub not_stopped : IsReturn (actor 2) Done (mark.Served (actor 2) answer.Stopped) → ⊥
@@ -234,6 +252,11 @@ pub record GenuineFacts : Type 0 where
   pub look : IsTrueIn [] (looks 2 1 answer.Absent)
   pub no_such_value : IsTrueIn [] (looks 2 1 (tells value.Null)) → ⊥
   pub not_denied : IsTrueIn [] (looks 2 1 answer.Denied) → ⊥
+  -- it tells what the page has then: nothing before the page has made it, and after that the list
+  pub nothing_yet : IsTrueIn [] (looks_at_length answer.Absent)
+  pub not_yet : IsTrueIn [] (looks_at_length no_items) → ⊥
+  pub made_by_then : IsTrueIn made_list (looks_at_length no_items)
+  pub not_absent : IsTrueIn made_list (looks_at_length answer.Absent) → ⊥
   pub denied : IsTrueIn (gives 3 ∷ []) (looks 2 3 answer.Denied)
   pub not_shown : IsTrueIn (gives 3 ∷ []) (looks 2 3 answer.Absent) → ⊥
   -- a look fits the table: it tells no cell of the host, and is none at the host, at the asker itself, or by a key that is too long
@@ -243,14 +266,19 @@ pub record GenuineFacts : Type 0 where
   -- what a look tells is held by the owner: an open page shows no object that a closed script kept, and one that was given away
   pub kept_from_page : IsTrueIn opened_page (looks 3 1 (tells (own 3))) → ⊥
   pub given_to_page : IsTrueIn (gives 3 ∷ opened_page) (looks 3 1 (tells (own 3)))
-  -- the host builds with no cell of its own
-  pub no_cell_built : IsTrueIn [] (mark.Build (Native m.WindowSetTimeout the_window (value.Cell the_host 5 shape.Function false ∷ value.Undefined ∷ []))) → ⊥
+  -- no mark names a cell of the host: neither what is built nor what is served
+  pub no_cell_built : IsWhole (mark.Build (Native m.WindowSetTimeout the_window (value.Cell the_host 5 shape.Function false ∷ value.Undefined ∷ []))) → ⊥
+  pub no_cell_entered : IsWhole (mark.Enter (actor 2) (entry.Serve (value.Cell the_host 5 shape.Function false) (serve.New []))) → ⊥
+  pub owned : IsWhole (mark.Enter (actor 2) (entry.Serve (function_of 2) (serve.New [])))
   -- an object of another closed script is named where its owner gave it away; of the page's this isn't asked
   pub named : names [] 2 3 ∷ names (gives 3 ∷ []) 2 3 ∷ names (gives 2 ∷ []) 2 3 ∷ names [] 2 1 ∷ names [] 3 3 ∷ [] ≡ false ∷ true ∷ false ∷ true ∷ true ∷ []
   -- a service is asked of another actor, on what is that one's
   pub served : IsTrueIn [] (serves 2 1 (of_page 5))
   pub not_on_itself : IsTrueIn [] (serves 2 2 (own 2)) → ⊥
   pub not_of_it : IsTrueIn [] (serves 2 1 (own 2)) → ⊥
+  -- what is exported may be defined on the window, and nothing else is asked of the page's window without its waiver
+  pub defined : IsTrueIn [] (mark.Serve (actor 2) (actor 1) window (serve.Define (codes "ask") (of_page 400)))
+  pub not_on_window : IsTrueIn [] (serves 2 1 window) → ⊥
 
 -- how ways out are answered, and what they open
 pub record WaysOutFacts : Type 0 where
@@ -284,6 +312,9 @@ pub record WaysOutFacts : Type 0 where
   pub no_key_in_array : IsWayOut (actor 2) (clones (list_of 2) false false) (refuses (codes "IsThing at .w")) → ⊥
   pub no_place_in_plain : IsWayOut (actor 2) (clones (own 2) false false) (refuses (codes "IsThing at [1]")) → ⊥
   pub functions_allowed : IsWayOut (actor 2) (clones (own 2) true false) (refuses (codes "IsFunction at .f")) → ⊥
+  pub no_such_fault : IsWayOut (actor 2) (clones (own 2) false false) (refuses (codes "NotCallable at .f")) → ⊥
+  pub no_path : IsWayOut (actor 2) (clones (own 2) false false) (refuses (codes "IsThing")) → ⊥
+  pub cut_path : IsWayOut (actor 2) (clones (own 2) false false) (refuses (codes "IsThing at ." ++ replicate 199 97))
   pub things_allowed : IsWayOut (actor 2) (clones (own 2) false true) (refuses (codes "IsThing at .w")) → ⊥
   -- a scope comes first, and one that isn't denied is no reason
   pub scope_first : IsWayOut (actor 2) (reach.Clone (function_of 2) value.Null value.Undefined false false) (refuses (codes "ScopeDenied"))

@@ -2,6 +2,8 @@
 -- texts of the refusals are this project's own).
 use Rattle.std.specs.Prelude.{◌≡◌, ◌⊎◌, ◌&&◌, ◌||◌, ℕ, Bool, true, false, not, List, [], ◌∷◌, ◌++◌, codes, take, if◌then◌else◌}
 use Rattle.std.specs.Fmt.{decimal}
+use Rattle.std.specs.List.{flat_map}
+use Rattle.door.specs.declared.values.TheConstants.{PAGE}
 use Rattle.door.specs.declared.values.Actor.{Actor}
 use Rattle.door.specs.declared.values.Shape.{Shape}
 use Rattle.door.specs.declared.values.Shape.TheVariants as shape
@@ -13,10 +15,9 @@ use Rattle.door.specs.declared.requests.ReachOp.TheVariants as reach
 use Rattle.door.specs.declared.requests.Answer.{Answer}
 use Rattle.door.specs.declared.requests.Answer.TheVariants.{Value as ValueAnswer, Throw, Stopped}
 use Rattle.dom_semantics.specs.Things.{is_actor, is_thing, the_window}
-use Rattle.dom_semantics.specs.Crossings.{SCOPE_DENIED, is_in, begins_step}
+use Rattle.dom_semantics.specs.Crossings.{SCOPE_DENIED, is_in}
 use Rattle.dom_semantics.specs.Fits.{is_function_shape}
 use Rattle.dom_semantics.specs.declared.crossings.TheConstants.{PATH_LIMIT}
-use Rattle.solo_model.specs.Things.{the_page}
 
 -- ---- values
 
@@ -40,7 +41,7 @@ is_own i v = false
 abbrev pub is_scope : Value → Bool
 is_scope (value.Thing thing) = is_thing the_window thing
 is_scope (value.WaivedThing thing) = true
-is_scope (value.Cell owner place shape waived) = is_actor owner the_page && waived
+is_scope (value.Cell owner place shape waived) = is_actor owner PAGE && waived
 is_scope v = false
 
 -- ---- answers
@@ -52,7 +53,7 @@ Unless false kind answer Then = Then
 
 -- a waived object of the page of this shape
 abbrev pub IsOfPage : Shape → Answer → Type 0
-IsOfPage shape answer = (place : ℕ) × (answer ≡ ValueAnswer (value.Cell the_page place shape true))
+IsOfPage shape answer = (place : ℕ) × (answer ≡ ValueAnswer (value.Cell PAGE place shape true))
 
 -- ---- clones
 
@@ -66,27 +67,40 @@ faults_left functions reflectors =
     (if functions then [] else codes "IsFunction" ∷ []) ++ ((if reflectors then [] else codes "IsThing" ∷ [])
     ++ (codes "HasAccessor" ∷ codes "IsForeign" ∷ codes "TooMany" ∷ []))
 
--- the step from a plain object to the value of a key, and from an array to that of a place
-abbrev pub IsKeyStep : List ℕ → Type 0
-IsKeyStep step = (key : List ℕ) × (step ≡ codes "." ++ key)
+-- a step of the walk, from an object to the value of a key, or from an array to that of a place
+pub data WalkStep : Type 0 where
+  ToKey : (key : List ℕ) → WalkStep
+  ToPlace : (place : ℕ) → WalkStep
 
-abbrev pub IsPlaceStep : List ℕ → Type 0
-IsPlaceStep step = (place : ℕ) × (step ≡ codes "[" ++ (decimal place ++ codes "]"))
+abbrev pub step_text : WalkStep → List ℕ
+step_text (ToKey key) = codes "." ++ key
+step_text (ToPlace place) = codes "[" ++ (decimal place ++ codes "]")
 
--- the refusal of a value inside the source: its path begins with a step into it, and is cut at its limit
-pub record IsRefusedWithin (faults : List (List ℕ)) (IsStep : List ℕ → Type 0) (answer : Answer) : Type 0 where
+-- the path of these steps, cut at its limit
+abbrev pub path_of : List WalkStep → List ℕ
+path_of steps = take PATH_LIMIT (flat_map step_text steps)
+
+-- of a plain object the values of its keys are walked, of an array those of its places
+abbrev pub is_step_in : Shape → WalkStep → Bool
+is_step_in shape.Plain (ToKey key) = true
+is_step_in shape.Array (ToPlace place) = true
+is_step_in shape step = false
+
+-- the refusal of a value inside a source of this shape
+pub record IsRefusedWithin (shape : Shape) (faults : List (List ℕ)) (answer : Answer) : Type 0 where
   pub fault : List ℕ
-  pub step : List ℕ
-  pub rest : List ℕ
-  pub into : IsStep step
-  pub onward : begins_step rest ≡ true
+  pub first : WalkStep
+  pub later : List WalkStep
+  pub within : is_step_in shape first ≡ true
   pub known : is_in faults fault ≡ true
-  pub same : answer ≡ refused_at fault (take PATH_LIMIT (step ++ rest))
+  pub same : answer ≡ refused_at fault (path_of (first ∷ later))
 
 -- an own plain object or array is copied, or refused for what is inside; an own function becomes one of the page where functions are cloned
 abbrev pub IsCloneOf : Shape → (functions reflectors : Bool) → Answer → Type 0
-IsCloneOf shape.Plain functions reflectors answer = IsOfPage shape.Plain answer ⊎ IsRefusedWithin (faults_left functions reflectors) IsKeyStep answer
-IsCloneOf shape.Array functions reflectors answer = IsOfPage shape.Array answer ⊎ IsRefusedWithin (faults_left functions reflectors) IsPlaceStep answer
+IsCloneOf shape.Plain functions reflectors answer =
+    IsOfPage shape.Plain answer ⊎ IsRefusedWithin shape.Plain (faults_left functions reflectors) answer
+IsCloneOf shape.Array functions reflectors answer =
+    IsOfPage shape.Array answer ⊎ IsRefusedWithin shape.Array (faults_left functions reflectors) answer
 IsCloneOf shape.Function true reflectors answer = IsOfPage shape.Function answer
 IsCloneOf shape.Function false reflectors answer = answer ≡ refused_at (codes "IsFunction") []
 IsCloneOf shape.Error functions reflectors answer = answer ≡ refused_at (codes "IsForeign") []
@@ -101,7 +115,7 @@ abbrev pub IsClone : Actor → Value → (functions reflectors : Bool) → Answe
 IsClone i (value.Thing thing) functions true answer = answer ≡ ValueAnswer (value.WaivedThing thing)
 IsClone i (value.Thing thing) functions false answer = answer ≡ refused_at (codes "IsThing") []
 IsClone i (value.WaivedThing thing) functions reflectors answer = answer ≡ refused_at (codes "IsForeign") []
-IsClone i (value.Cell owner place shape waived) functions reflectors answer = 
+IsClone i (value.Cell owner place shape waived) functions reflectors answer =
     IsCloneIf (is_actor owner i && not waived) shape functions reflectors answer
 IsClone i source functions reflectors answer = answer ≡ ValueAnswer source
 

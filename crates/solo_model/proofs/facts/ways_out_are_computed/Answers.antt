@@ -1,5 +1,6 @@
-use Rattle.std.proofs.Common.{◌≡◌, ◌∙◌, ◌&&◌, ◌||◌, ◌++◌, ap, refl, sym, subst, true≢false, inl, inr, ℕ, Bool, true, false, not, List, [], ◌∷◌, codes, take, length, decimal, bytes_eq, bytes_eq-Decides}
+use Rattle.std.proofs.Common.{◌≡◌, ◌∙◌, ◌&&◌, ◌||◌, ap, refl, sym, true≢false, inl, inr, ℕ, Bool, true, false, not, List, [], ◌∷◌, codes, take, replicate, bytes_eq}
 use Rattle.std.specs.List.{list_all}
+use Rattle.std.proofs.lemmas.Slice.Eq.{bytes_eq-Decides}
 use Rattle.std.specs.Char.{encode_utf8}
 use Rattle.std.specs.Fmt.{digits}
 use Rattle.dom_semantics.specs.Forest.{DEPTH_LIMIT, NODE_LIMIT}
@@ -17,9 +18,8 @@ use Rattle.door.specs.declared.values.Shape.TheVariants.{Plain, Array}
 use Rattle.door.specs.declared.values.Value.TheVariants.{Thing, Cell}
 use Rattle.dom_semantics.specs.Crossings.{is_in}
 use Rattle.dom_semantics.specs.Things.{the_window}
-use Rattle.dom_semantics.specs.declared.crossings.TheConstants.{PATH_LIMIT}
 use Rattle.solo_model.specs.RunFacts.{actor}
-use Rattle.solo_model.specs.WaysOut.{IsWayOutOrStopped, IsCloneOf, faults_left, refused_at}
+use Rattle.solo_model.specs.WaysOut.{IsWayOutOrStopped, IsCloneOf, WalkStep, ToKey, ToPlace, faults_left, is_step_in, path_of, refused_at}
 use Rattle.solo_model.proofs.facts.ways_out_are_computed.Goals as goal
 
 abbrev is_value : Answer → Bool
@@ -51,12 +51,13 @@ abbrev said : Answer → List ℕ
 said (Throw (Crossing text)) = text
 said answer = []
 
-abbrev begins : List ℕ → List ℕ → Bool
-begins front text = bytes_eq front (take (length front) text)
+-- the first k scalars of a text are these
+abbrev begins : ℕ → List ℕ → List ℕ → Bool
+begins k front text = bytes_eq front (take k text)
 
 -- the refusal by this fault begins in another way
-abbrev is_other : (front path fault : List ℕ) → Bool
-is_other front path fault = not (begins front (said (refused_at fault path)))
+abbrev is_other : ℕ → (front path fault : List ℕ) → Bool
+is_other k front path fault = not (begins k front (said (refused_at fault path)))
 
 both : (a b : Bool) → (a && b) ≡ true → (a ≡ true) × (b ≡ true)
 both true b h = (refl, h)
@@ -71,47 +72,65 @@ chosen test f t false rest equal h p later = later h
 one_of : (test : List ℕ → Bool) (f : List ℕ) (texts : List (List ℕ)) → is_in texts f ≡ true → list_all test texts ≡ true → test f ≡ true
 one_of test f [] h all = absurd (true≢false (sym h))
 one_of test f (t ∷ ts) h all =
-    let parts = both (test t) (list_all test ts) all in
+    let parts : (test t ≡ true) × (list_all test ts ≡ true) = both (test t) (list_all test ts) all in
     chosen test f t (bytes_eq f t) (is_in ts f) (bytes_eq-Decides f t).0 h parts.0 (λ later. one_of test f ts later parts.1)
 
-not_refused : (front : List ℕ) (answer : Answer) (faults : List (List ℕ)) (fault path : List ℕ) → begins front (said answer) ≡ true
-    → list_all (is_other front path) faults ≡ true → is_in faults fault ≡ true → answer ≡ refused_at fault path → ⊥
-not_refused front answer faults fault path is none known same =
-    true≢false (sym (ap not (sym is ∙ ap (λ a. begins front (said a)) same) ∙ one_of (is_other front path) fault faults known none))
+not_refused : (k : ℕ) (front : List ℕ) (answer : Answer) (faults : List (List ℕ)) (fault path : List ℕ) → begins k front (said answer) ≡ true
+    → list_all (is_other k front path) faults ≡ true → is_in faults fault ≡ true → answer ≡ refused_at fault path → ⊥
+not_refused k front answer faults fault path is none known same =
+    true≢false (sym (ap not (sym is ∙ ap (λ a. begins k front (said a)) same) ∙ one_of (is_other k front path) fault faults known none))
+
+-- the path into an array begins with a place, and that into a plain object with a key
+of_place : (first : WalkStep) (later : List WalkStep) (fault : List ℕ) → is_step_in Array first ≡ true → is_in (faults_left false false) fault ≡ true
+    → refused (codes "IsThing at .w") ≡ refused_at fault (path_of (first ∷ later)) → ⊥
+unfolding encode_utf8
+of_place (ToKey key) later fault within known same = true≢false (sym within)
+of_place (ToPlace n) later fault within known same =
+    not_refused 12 (codes "IsThing at .") (refused (codes "IsThing at .w")) (faults_left false false) fault (path_of (ToPlace n ∷ later)) refl refl known same
 
 no_key_in_array : IsCloneOf Array false false (refused (codes "IsThing at .w")) → ⊥
 unfolding encode_utf8
 no_key_in_array (inl h) = true≢false (sym (ap is_value h.1))
-no_key_in_array (inr h) =
-    not_refused (codes "IsThing at .") (refused (codes "IsThing at .w")) (faults_left false false) h.fault
-    (take PATH_LIMIT ((codes "[" ++ (decimal h.into.0 ++ codes "]")) ++ h.rest)) refl refl h.known
-    (h.same ∙ ap (λ s. refused_at h.fault (take PATH_LIMIT (s ++ h.rest))) h.into.1)
+no_key_in_array (inr h) = of_place h.first h.later h.fault h.within h.known h.same
+
+of_key : (first : WalkStep) (later : List WalkStep) (fault : List ℕ) → is_step_in Plain first ≡ true → is_in (faults_left false false) fault ≡ true
+    → refused (codes "IsThing at [1]") ≡ refused_at fault (path_of (first ∷ later)) → ⊥
+unfolding encode_utf8
+of_key (ToPlace n) later fault within known same = true≢false (sym within)
+of_key (ToKey key) later fault within known same =
+    not_refused 12 (codes "IsThing at [") (refused (codes "IsThing at [1]")) (faults_left false false) fault (path_of (ToKey key ∷ later)) refl refl known same
 
 no_place_in_plain : IsCloneOf Plain false false (refused (codes "IsThing at [1]")) → ⊥
 unfolding encode_utf8
 no_place_in_plain (inl h) = true≢false (sym (ap is_value h.1))
-no_place_in_plain (inr h) =
-    not_refused (codes "IsThing at [") (refused (codes "IsThing at [1]")) (faults_left false false) h.fault
-    (take PATH_LIMIT ((codes "." ++ h.into.0) ++ h.rest)) refl refl h.known
-    (h.same ∙ ap (λ s. refused_at h.fault (take PATH_LIMIT (s ++ h.rest))) h.into.1)
+no_place_in_plain (inr h) = of_key h.first h.later h.fault h.within h.known h.same
+
+-- a text that no fault of a plain object has
+no_fault : (functions reflectors : Bool) (k : ℕ) (front text : List ℕ) → begins k front text ≡ true
+    → ((path : List ℕ) → list_all (is_other k front path) (faults_left functions reflectors) ≡ true) → IsCloneOf Plain functions reflectors (refused text) → ⊥
+no_fault functions reflectors k front text is none (inl h) = true≢false (sym (ap is_value h.1))
+no_fault functions reflectors k front text is none (inr h) =
+    not_refused k front (refused text) (faults_left functions reflectors) h.fault (path_of (h.first ∷ h.later)) is (none (path_of (h.first ∷ h.later))) h.known h.same
 
 functions_allowed : IsCloneOf Plain true false (refused (codes "IsFunction at .f")) → ⊥
 unfolding encode_utf8
-functions_allowed (inl h) = true≢false (sym (ap is_value h.1))
-functions_allowed (inr h) =
-    not_refused (codes "IsFu") (refused (codes "IsFunction at .f")) (faults_left true false) h.fault (take PATH_LIMIT (h.step ++ h.rest)) refl refl h.known h.same
+functions_allowed h = no_fault true false 4 (codes "IsFu") (codes "IsFunction at .f") refl (λ path. refl) h
 
 things_allowed : IsCloneOf Plain false true (refused (codes "IsThing at .w")) → ⊥
 unfolding encode_utf8
-things_allowed (inl h) = true≢false (sym (ap is_value h.1))
-things_allowed (inr h) =
-    not_refused (codes "IsTh") (refused (codes "IsThing at .w")) (faults_left false true) h.fault (take PATH_LIMIT (h.step ++ h.rest)) refl refl h.known h.same
+things_allowed h = no_fault false true 4 (codes "IsTh") (codes "IsThing at .w") refl (λ path. refl) h
+
+no_such_fault : IsCloneOf Plain false false (refused (codes "NotCallable at .f")) → ⊥
+unfolding encode_utf8
+no_such_fault h = no_fault false false 1 (codes "N") (codes "NotCallable at .f") refl (λ path. refl) h
+
+no_path : IsCloneOf Plain false false (refused (codes "IsThing")) → ⊥
+unfolding encode_utf8
+no_path h = no_fault false false 8 (codes "IsThing") (codes "IsThing") refl (λ path. refl) h
 
 scope_given : IsCloneOf Plain false false (refused (codes "ScopeDenied")) → ⊥
 unfolding encode_utf8
-scope_given (inl h) = true≢false (sym (ap is_value h.1))
-scope_given (inr h) =
-    not_refused (codes "S") (refused (codes "ScopeDenied")) (faults_left false false) h.fault (take PATH_LIMIT (h.step ++ h.rest)) refl refl h.known h.same
+scope_given h = no_fault false false 1 (codes "S") (codes "ScopeDenied") refl (λ path. refl) h
 
 pub returns : goal.returns
 unfolding encode_utf8 DEPTH_LIMIT NODE_LIMIT LISTENER_LIMIT TIMER_LIMIT NESTED_DISPATCH_LIMIT DISPATCH_LIMIT course_from progress_from TASK_LIMIT digits
@@ -136,11 +155,14 @@ returns c = record {
   thing_wrapped = refl;
   foreign = refl;
   copied = inl (400, refl);
-  inside = inr (record { fault = codes "IsFunction"; step = codes ".a"; rest = codes "[1]"; into = (codes "a", refl); onward = refl; known = refl; same = refl });
-  in_array = inr (record { fault = codes "IsThing"; step = codes "[12]"; rest = codes ".w"; into = (12, refl); onward = refl; known = refl; same = refl });
+  inside = inr (record { fault = codes "IsFunction"; first = ToKey (codes "a"); later = ToPlace 1 ∷ []; within = refl; known = refl; same = refl });
+  in_array = inr (record { fault = codes "IsThing"; first = ToPlace 12; later = ToKey (codes "w") ∷ []; within = refl; known = refl; same = refl });
   no_key_in_array = no_key_in_array;
   no_place_in_plain = no_place_in_plain;
   functions_allowed = functions_allowed;
+  no_such_fault = no_such_fault;
+  no_path = no_path;
+  cut_path = inr (record { fault = codes "IsThing"; first = ToKey (replicate 500 97); later = []; within = refl; known = refl; same = refl });
   things_allowed = things_allowed;
   scope_first = refl;
   scope_given = scope_given;
