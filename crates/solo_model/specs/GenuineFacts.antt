@@ -307,7 +307,7 @@ pub record WaysOutFacts : Type 0 where
   pub foreign : IsWayOut (actor 2) (clones (of_page 5) true true) (refuses (codes "IsForeign at "))
   pub copied : IsWayOut (actor 2) (clones (own 2) false false) (tells (of_page 400))
   pub inside : IsWayOut (actor 2) (clones (own 2) false false) (refuses (codes "IsFunction at .a[1]"))
-  -- the path into an array is cut in no step, and what the options allow isn't refused
+  -- an array is left by a place and an object by a key; what the options allow isn't refused, and no other text is a refusal; a path is cut
   pub in_array : IsWayOut (actor 2) (clones (list_of 2) false false) (refuses (codes "IsThing at [12].w"))
   pub no_key_in_array : IsWayOut (actor 2) (clones (list_of 2) false false) (refuses (codes "IsThing at .w")) → ⊥
   pub no_place_in_plain : IsWayOut (actor 2) (clones (own 2) false false) (refuses (codes "IsThing at [1]")) → ⊥

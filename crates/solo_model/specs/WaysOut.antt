@@ -1,8 +1,9 @@
 -- What a request for a way out is answered, as far as its own values decide it (MDN, cloneInto, exportFunction, createObjectIn, waivers; the
 -- texts of the refusals are this project's own).
-use Rattle.std.specs.Prelude.{◌≡◌, ◌⊎◌, ◌&&◌, ◌||◌, ℕ, Bool, true, false, not, List, [], ◌∷◌, ◌++◌, codes, take, if◌then◌else◌}
+use Rattle.std.specs.Prelude.{◌≡◌, ◌⊎◌, ◌&&◌, ◌||◌, ℕ, Bool, true, false, not, List, [], ◌∷◌, ◌++◌, codes, filter, take}
 use Rattle.std.specs.Fmt.{decimal}
 use Rattle.std.specs.List.{flat_map}
+use Rattle.std.specs.Str.{bytes_eq}
 use Rattle.door.specs.declared.values.TheConstants.{PAGE}
 use Rattle.door.specs.declared.values.Actor.{Actor}
 use Rattle.door.specs.declared.values.Shape.{Shape}
@@ -15,7 +16,7 @@ use Rattle.door.specs.declared.requests.ReachOp.TheVariants as reach
 use Rattle.door.specs.declared.requests.Answer.{Answer}
 use Rattle.door.specs.declared.requests.Answer.TheVariants.{Value as ValueAnswer, Throw, Stopped}
 use Rattle.dom_semantics.specs.Things.{is_actor, is_thing, the_window}
-use Rattle.dom_semantics.specs.Crossings.{SCOPE_DENIED, is_in}
+use Rattle.dom_semantics.specs.Crossings.{SCOPE_DENIED, is_in, walk_refusals}
 use Rattle.dom_semantics.specs.Fits.{is_function_shape}
 use Rattle.dom_semantics.specs.declared.crossings.TheConstants.{PATH_LIMIT}
 
@@ -61,27 +62,28 @@ IsOfPage shape answer = (place : ℕ) × (answer ≡ ValueAnswer (value.Cell PAG
 abbrev pub refused_at : List ℕ → List ℕ → Answer
 refused_at fault path = Throw (Crossing (fault ++ (codes " at " ++ path)))
 
--- the refusals that the options leave: cloned functions and wrapped things are none (MDN, cloneInto, cloneFunctions and wrapReflectors)
+-- the refusals that the options leave: functions that are cloned and things that are wrapped are none (MDN, cloneInto, options)
+abbrev pub is_left : (functions reflectors : Bool) → List ℕ → Bool
+is_left functions reflectors fault = not ((functions && bytes_eq fault (codes "IsFunction")) || (reflectors && bytes_eq fault (codes "IsThing")))
+
 abbrev pub faults_left : (functions reflectors : Bool) → List (List ℕ)
-faults_left functions reflectors =
-    (if functions then [] else codes "IsFunction" ∷ []) ++ ((if reflectors then [] else codes "IsThing" ∷ [])
-    ++ (codes "HasAccessor" ∷ codes "IsForeign" ∷ codes "TooMany" ∷ []))
+faults_left functions reflectors = filter (is_left functions reflectors) walk_refusals
 
--- a step of the walk, from an object to the value of a key, or from an array to that of a place
-pub data WalkStep : Type 0 where
-  ToKey : (key : List ℕ) → WalkStep
-  ToPlace : (place : ℕ) → WalkStep
+-- a step of the path to a value inside of what is cloned: from an object by a key, or from an array by a place
+pub data PathStep : Type 0 where
+  ToKey : (key : List ℕ) → PathStep
+  ToPlace : (place : ℕ) → PathStep
 
-abbrev pub step_text : WalkStep → List ℕ
+abbrev pub step_text : PathStep → List ℕ
 step_text (ToKey key) = codes "." ++ key
 step_text (ToPlace place) = codes "[" ++ (decimal place ++ codes "]")
 
 -- the path of these steps, cut at its limit
-abbrev pub path_of : List WalkStep → List ℕ
+abbrev pub path_of : List PathStep → List ℕ
 path_of steps = take PATH_LIMIT (flat_map step_text steps)
 
--- of a plain object the values of its keys are walked, of an array those of its places
-abbrev pub is_step_in : Shape → WalkStep → Bool
+-- a plain object is left by a key, an array by a place
+abbrev pub is_step_in : Shape → PathStep → Bool
 is_step_in shape.Plain (ToKey key) = true
 is_step_in shape.Array (ToPlace place) = true
 is_step_in shape step = false
@@ -89,8 +91,8 @@ is_step_in shape step = false
 -- the refusal of a value inside a source of this shape
 pub record IsRefusedWithin (shape : Shape) (faults : List (List ℕ)) (answer : Answer) : Type 0 where
   pub fault : List ℕ
-  pub first : WalkStep
-  pub later : List WalkStep
+  pub first : PathStep
+  pub later : List PathStep
   pub within : is_step_in shape first ≡ true
   pub known : is_in faults fault ≡ true
   pub same : answer ≡ refused_at fault (path_of (first ∷ later))

@@ -19,7 +19,7 @@ use Rattle.door.specs.declared.values.Value.TheVariants.{Thing, Cell}
 use Rattle.dom_semantics.specs.Crossings.{is_in}
 use Rattle.dom_semantics.specs.Things.{the_window}
 use Rattle.solo_model.specs.RunFacts.{actor}
-use Rattle.solo_model.specs.WaysOut.{IsWayOutOrStopped, IsCloneOf, WalkStep, ToKey, ToPlace, faults_left, is_step_in, path_of, refused_at}
+use Rattle.solo_model.specs.WaysOut.{IsWayOutOrStopped, IsCloneOf, PathStep, ToKey, ToPlace, faults_left, is_step_in, path_of, refused_at}
 use Rattle.solo_model.proofs.facts.ways_out_are_computed.Goals as goal
 
 abbrev is_value : Answer → Bool
@@ -81,7 +81,7 @@ not_refused k front answer faults fault path is none known same =
     true≢false (sym (ap not (sym is ∙ ap (λ a. begins k front (said a)) same) ∙ one_of (is_other k front path) fault faults known none))
 
 -- the path into an array begins with a place, and that into a plain object with a key
-of_place : (first : WalkStep) (later : List WalkStep) (fault : List ℕ) → is_step_in Array first ≡ true → is_in (faults_left false false) fault ≡ true
+of_place : (first : PathStep) (later : List PathStep) (fault : List ℕ) → is_step_in Array first ≡ true → is_in (faults_left false false) fault ≡ true
     → refused (codes "IsThing at .w") ≡ refused_at fault (path_of (first ∷ later)) → ⊥
 unfolding encode_utf8
 of_place (ToKey key) later fault within known same = true≢false (sym within)
@@ -93,7 +93,7 @@ unfolding encode_utf8
 no_key_in_array (inl h) = true≢false (sym (ap is_value h.1))
 no_key_in_array (inr h) = of_place h.first h.later h.fault h.within h.known h.same
 
-of_key : (first : WalkStep) (later : List WalkStep) (fault : List ℕ) → is_step_in Plain first ≡ true → is_in (faults_left false false) fault ≡ true
+of_key : (first : PathStep) (later : List PathStep) (fault : List ℕ) → is_step_in Plain first ≡ true → is_in (faults_left false false) fault ≡ true
     → refused (codes "IsThing at [1]") ≡ refused_at fault (path_of (first ∷ later)) → ⊥
 unfolding encode_utf8
 of_key (ToPlace n) later fault within known same = true≢false (sym within)
