@@ -154,7 +154,7 @@ abbrev looks : ℕ → ℕ → Answer → Mark
 looks i owner a = mark.Ask (actor i) (Peek (actor owner) 301 (codes "k")) a
 
 -- the page's timer calls Array, which makes an empty list as the page's first object; and looks at its length
-abbrev made_list : List Mark
+abbrev pub made_list : List Mark
 made_list = mark.Enter (actor 1) (entry.Timer 13) ∷ mark.Leave (actor 1) Done 0 ∷ []
 
 abbrev looks_at_length : Answer → Mark
