@@ -5,7 +5,6 @@ use Rattle.std.specs.List.{flat_map}
 use Rattle.door.specs.declared.values.Actor.{Actor}
 use Rattle.door.specs.declared.values.Kind.TheVariants.{Element}
 use Rattle.door.specs.declared.values.Shape.TheVariants as shape
-use Rattle.door.specs.declared.values.Thing.{Thing}
 use Rattle.door.specs.declared.values.Value.{Value}
 use Rattle.door.specs.declared.values.Value.TheVariants as value
 use Rattle.door.specs.declared.members.Member.TheVariants as m
