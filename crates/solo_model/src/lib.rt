@@ -9,8 +9,8 @@ mod laws;
 
 pub use determinism::{entries_go_on_one_way, scripts_have_no_fault, tokens_have_one_first_fault};
 pub use facts::{
-    orders_are_computed, runs_are_computed, truths_are_computed, views_are_computed,
-    ways_out_are_computed,
+    acts_are_computed, orders_are_computed, runs_are_computed, truths_are_computed,
+    views_are_computed, ways_out_are_computed,
 };
 pub use laws::{
     equal_shows_give_equal_deeds, equal_shows_of_a_run_give_equal_deeds,
