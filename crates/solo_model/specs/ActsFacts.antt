@@ -76,6 +76,9 @@ pub record ActsFacts : Type 0 where
   pub page_beside_plain : did 1 (enters 1 ∷ leaves 1 ∷ enters 4 ∷ leaves 4 ∷ enters 1 ∷ asks 1 ∷ leaves 1 ∷ []) ≡ left ∷ []
   -- what the page asks for opens nobody
   pub by_page : did 1 (enters 1 ∷ reaches 1 window ∷ leaves 1 ∷ []) ≡ Requests (Reach reach.UnsafeWindow) ∷ left ∷ []
+  -- a script's machine has its own grants, the page's has none, and both have the run's address
+  pub granted : (setups (actor 2)).grants.log ∷ (setups (actor 3)).grants.unsafe_window ∷ (setups (actor 1)).grants.log ∷ [] ≡ true ∷ true ∷ false ∷ []
+  pub address : (setups (actor 2)).address ≡ codes "http://example.com/"
   -- the innermost entry runs, and the outer one when that is left
   pub inner_runs : runs 2 nested ∷ runs 1 nested ∷ [] ≡ true ∷ false ∷ []
   pub outer_runs : runs 2 (nested ++ leaves 2 ∷ []) ∷ runs 1 (nested ++ leaves 2 ∷ []) ∷ [] ≡ false ∷ true ∷ []

@@ -19,7 +19,8 @@ use Rattle.door.specs.declared.requests.ErrorKind.{ErrorKind}
 use Rattle.door.specs.declared.requests.ErrorKind.TheVariants as error
 use Rattle.door.specs.declared.marks.Task.TheVariants as task
 use Rattle.door.specs.declared.marks.Entry.TheVariants as entry
-use Rattle.door.specs.declared.marks.Outcome.TheVariants.{Done, Syntax}
+use Rattle.door.specs.declared.marks.Outcome.TheVariants.{Done, Stop, Syntax}
+use Rattle.door.specs.declared.marks.StopKind.TheVariants.{Fuel}
 use Rattle.door.specs.declared.marks.Mark.{Mark}
 use Rattle.door.specs.declared.marks.Mark.TheVariants as mark
 use Rattle.dom_semantics.specs.Forest.{the_host}
@@ -31,8 +32,7 @@ use Rattle.dom_semantics.specs.Reply.{Reply}
 use Rattle.dom_semantics.specs.TargetReplies.{dispatch_refusal}
 use Rattle.dom_semantics.specs.Truth.{reply_to}
 use Rattle.solo_model.specs.Given.{Given, DocumentEnd, setting_of, zone_of}
-use Rattle.solo_model.specs.Nesting.{Running, Returning, progress_of}
-use Rattle.solo_model.specs.NextMark.{Exactly, ByActor, Nothing, Allows, IsReturn, MayEnd, next_of}
+use Rattle.solo_model.specs.NextMark.{Next, Exactly, ByActor, ByReturn, Nothing, Allows, IsBy, IsReturn, MayEnd, next_of}
 use Rattle.solo_model.specs.Openings.{has_opened}
 use Rattle.solo_model.specs.Acts.{Setups, setups_of}
 use Rattle.solo_model.specs.MarkValues.{may_name_all}
@@ -176,6 +176,9 @@ names marks i owner = may_name_all (zone_of company) marks (actor i) (record { o
 abbrev serves : ℕ → ℕ → Value → Mark
 serves i owner v = mark.Serve (actor i) (actor owner) v (serve.Get (codes "k"))
 
+abbrev sets : ℕ → ℕ → Value → Mark
+sets i owner v = mark.Serve (actor i) (actor owner) (own owner) (serve.Set (codes "k") v)
+
 abbrev reaches : ℕ → ReachOp → Answer → Mark
 reaches i operation a = mark.Ask (actor i) (Reach operation) a
 
@@ -195,11 +198,19 @@ clones source functions reflectors = reach.Clone source window value.Undefined f
 abbrev exports : Value → Value → ReachOp
 exports callee scope = reach.Export callee scope value.Undefined
 
--- a call of a function of the page is served, and the entry ends
+-- a call of a function of the page is served
 abbrev called : List Mark
 called =
     mark.Enter (actor 2) (entry.Script (codes "S")) ∷ mark.Serve (actor 2) (actor 1) (function_of 1) (serve.Call value.Undefined [])
-    ∷ mark.Enter (actor 1) (entry.Serve (function_of 1) (serve.Call value.Undefined [])) ∷ mark.Leave (actor 1) Done 3 ∷ []
+    ∷ mark.Enter (actor 1) (entry.Serve (function_of 1) (serve.Call value.Undefined [])) ∷ mark.Leave (actor 1) Done 3
+    ∷ mark.Served (actor 2) (tells value.Undefined) ∷ []
+
+abbrev after_called : ℕ → Next
+after_called n = next_of company (setting_of company []) (take n called)
+
+-- the script may have the other serve
+abbrev MayServe : List Mark → ℕ → ℕ → Type 0
+MayServe marks i owner = IsBy company marks (actor i) (entry.Timer 300) (serves i owner (own owner))
 
 -- which mark may come
 pub record OrderFacts : Type 0 where
@@ -219,9 +230,22 @@ pub record OrderFacts : Type 0 where
   pub syntax : MayEnd (actor 1) (entry.Script (codes "(")) (Syntax 1 (codes "Unexpected"))
   pub no_syntax : MayEnd (actor 1) (entry.Timer 300) (Syntax 0 (codes "Unexpected")) → ⊥
   pub no_syntax_of_script : MayEnd (actor 2) (entry.Script (codes "(")) (Syntax 1 (codes "Unexpected")) → ⊥
-  -- a service waits for what it is answered, which is stopped just where its entry was
-  pub serves : (progress_of called).unfinished ≡ Returning (actor 2) Done ∷ Running (actor 2) (entry.Script (codes "S")) ∷ []
+  -- a service is an entry of the owner, and waits for what it is answered, which is stopped just where its entry was, and thrown just where it threw
+  pub entry_of_owner : after_called 2 ≡ Exactly (mark.Enter (actor 1) (entry.Serve (function_of 1) (serve.Call value.Undefined [])))
+  pub served_next : after_called 4 ≡ ByReturn (actor 2) Done
+  pub caller_next : after_called 5 ≡ ByActor (actor 2) (entry.Script (codes "S"))
+  pub told : IsReturn (actor 2) Done (mark.Served (actor 2) (tells value.Undefined))
+  pub told_stopped : IsReturn (actor 2) (Stop Fuel) (mark.Served (actor 2) answer.Stopped)
   pub not_stopped : IsReturn (actor 2) Done (mark.Served (actor 2) answer.Stopped) → ⊥
+  pub not_told : IsReturn (actor 2) (Stop Fuel) (mark.Served (actor 2) (tells value.Undefined)) → ⊥
+  pub not_thrown : IsReturn (actor 2) Done (mark.Served (actor 2) (answer.Thrown value.Undefined)) → ⊥
+  pub not_for_owner : IsReturn (actor 2) Done (mark.Served (actor 1) (tells value.Undefined)) → ⊥
+  -- neither side of a service is closed, and nobody asks for one in another's name
+  pub both_open : MayServe opened_page 2 1
+  pub both_closed : MayServe [] 2 1 → ⊥
+  pub owner_closed : MayServe opened_page 2 3 → ⊥
+  pub asker_closed : MayServe opened_page 3 1 → ⊥
+  pub by_another : IsBy company opened_page (actor 1) (entry.Timer 300) (serves 2 1 (of_page 5)) → ⊥
   -- 64 dispatches of an actor in a turn, and four unfinished; the host has no limit, and a turn begins anew
   pub sixty_fourth : refused (many 63) (actor 1) 0 ≡ None
   pub sixty_fifth : refused (many 64) (actor 1) 0 ≡ Some error.InvalidState
@@ -243,6 +267,8 @@ pub record GenuineFacts : Type 0 where
   -- a dispatch is a request where it is refused, and else a mark of its own
   pub free : answered 18 2 dispatches ≡ None
   pub busy : answered 14 2 dispatches ≡ Some (answer.Throw error.InvalidState)
+  pub dispatch : IsTrue 18 (mark.Dispatch (actor 2) 0 the_window)
+  pub no_such_event : IsTrue 18 (mark.Dispatch (actor 2) 7 the_window) → ⊥
   pub not_while_busy : IsTrue 14 (mark.Dispatch (actor 2) 0 the_window) → ⊥
   -- the host builds by requests that have a reply: the fourth node is a text
   pub no_build : IsTrue 8 (mark.Build (appends (element 3) (thing_of Element 4))) → ⊥
@@ -256,6 +282,7 @@ pub record GenuineFacts : Type 0 where
   pub not_yet : IsTrueIn [] (looks_at_length no_items) → ⊥
   pub made_by_then : IsTrueIn made_list (looks_at_length no_items)
   pub not_absent : IsTrueIn made_list (looks_at_length answer.Absent) → ⊥
+  pub no_keys : IsTrueIn [] (mark.Ask (actor 2) (PeekKeys (actor 1) 300) (answer.Keys []))
   pub denied : IsTrueIn (gives 3 ∷ []) (looks 2 3 answer.Denied)
   pub not_shown : IsTrueIn (gives 3 ∷ []) (looks 2 3 answer.Absent) → ⊥
   -- a look fits the table: it tells no cell of the host, and is none at the host, at the asker itself, or by a key that is too long
@@ -270,11 +297,18 @@ pub record GenuineFacts : Type 0 where
   pub no_cell_entered : IsWhole (mark.Enter (actor 2) (entry.Serve (value.Cell the_host 5 shape.Function false) (serve.New []))) → ⊥
   pub owned : IsWhole (mark.Enter (actor 2) (entry.Serve (function_of 2) (serve.New [])))
   -- an object of another closed script is named where its owner gave it away; of the page's this isn't asked
-  pub named : names [] 2 3 ∷ names (gives 3 ∷ []) 2 3 ∷ names (gives 2 ∷ []) 2 3 ∷ names [] 2 1 ∷ names [] 3 3 ∷ [] ≡ false ∷ true ∷ false ∷ true ∷ true ∷ []
+  pub named : names [] 2 3 ∷ names (gives 3 ∷ []) 2 3 ∷ names (gives 2 ∷ []) 2 3 ∷ names [] 2 1 ∷ names [] 3 3 ∷ names opened_page 3 2 ∷ []
+      ≡ false ∷ true ∷ false ∷ true ∷ true ∷ true ∷ []
   -- a service is asked of another actor, on what is that one's
   pub served : IsTrueIn [] (serves 2 1 (of_page 5))
   pub not_on_itself : IsTrueIn [] (serves 2 2 (own 2)) → ⊥
   pub not_of_it : IsTrueIn [] (serves 2 1 (own 2)) → ⊥
+  pub not_named : IsTrueIn opened_page (sets 2 1 (own 3)) → ⊥
+  pub named_then : IsTrueIn (gives 3 ∷ opened_page) (sets 2 1 (own 3))
+  -- what is served is there, and isn't what a closed script has kept
+  pub told : IsTrueIn opened_page (mark.Served (actor 2) (tells (of_page 5)))
+  pub not_there : IsTrueIn opened_page (mark.Served (actor 2) (tells (value.Thing (element 9)))) → ⊥
+  pub not_told : IsTrueIn opened_page (mark.Served (actor 2) (tells (own 3))) → ⊥
   -- what is exported may be defined on the window, and nothing else is asked of the page's window without its waiver
   pub defined : IsTrueIn [] (mark.Serve (actor 2) (actor 1) window (serve.Define (codes "ask") (of_page 400)))
   pub not_on_window : IsTrueIn [] (serves 2 1 window) → ⊥
@@ -328,5 +362,7 @@ pub record WaysOutFacts : Type 0 where
   -- a way out opens the page and its script, and so does the entry of a script that runs among the page's own
   pub opened : is_open (reaches 2 (reach.Waive window) answer.Stopped ∷ []) 1 ∷ is_open (reaches 2 (reach.Waive window) answer.Stopped ∷ []) 2
       ∷ is_open (reaches 2 (reach.Waive window) answer.Stopped ∷ []) 3 ∷ [] ≡ true ∷ true ∷ false ∷ []
+  pub by_page : is_open (reaches 1 (reach.Waive window) answer.Stopped ∷ []) 1 ≡ false
+  pub where_refused : is_open (reaches 2 (clones (own 2) false false) (refuses (codes "ScopeDenied")) ∷ []) 1 ≡ true
   pub entered : is_open (mark.Enter (actor 4) (entry.Timer 300) ∷ []) 1 ∷ is_open (mark.Enter (actor 4) (entry.Timer 300) ∷ []) 4
       ∷ is_open (mark.Enter (actor 3) (entry.Timer 300) ∷ []) 1 ∷ [] ≡ true ∷ true ∷ false ∷ []

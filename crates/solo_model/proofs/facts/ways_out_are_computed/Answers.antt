@@ -173,5 +173,7 @@ returns c = record {
   stopped = record { possible = refl; answered = (refl, inl refl); names = refl; tells = refl };
   not_plain = not_own;
   opened = refl;
+  by_page = refl;
+  where_refused = refl;
   entered = refl;
 }
