@@ -143,11 +143,14 @@ of_page place = value.Cell (actor 1) place shape.Plain true
 abbrev window : Value
 window = value.Thing the_window
 
--- a userscript makes an event that carries its own object
-abbrev gives : ℕ → Mark
-gives i =
-    mark.Ask (actor i) (Native m.NewCustomEvent the_window (value.Str (codes "d") ∷ value.Bool false ∷ value.Bool false ∷ own i ∷ []))
+-- an actor makes an event that carries that one's object, and a userscript one that carries its own
+abbrev carries : ℕ → ℕ → Mark
+carries i owner =
+    mark.Ask (actor i) (Native m.NewCustomEvent the_window (value.Str (codes "d") ∷ value.Bool false ∷ value.Bool false ∷ own owner ∷ []))
     (tells (value.Thing (event 0)))
+
+abbrev gives : ℕ → Mark
+gives i = carries i i
 
 abbrev looks : ℕ → ℕ → Answer → Mark
 looks i owner a = mark.Ask (actor i) (Peek (actor owner) 301 (codes "k")) a
@@ -297,6 +300,7 @@ pub record GenuineFacts : Type 0 where
   pub no_cell_entered : IsWhole (mark.Enter (actor 2) (entry.Serve (value.Cell the_host 5 shape.Function false) (serve.New []))) → ⊥
   pub owned : IsWhole (mark.Enter (actor 2) (entry.Serve (function_of 2) (serve.New [])))
   -- an object of another closed script is named where its owner gave it away; of the page's this isn't asked
+  pub not_given : names (carries 1 3 ∷ []) 2 3 ≡ false
   pub named : names [] 2 3 ∷ names (gives 3 ∷ []) 2 3 ∷ names (gives 2 ∷ []) 2 3 ∷ names [] 2 1 ∷ names [] 3 3 ∷ names opened_page 3 2 ∷ []
       ≡ false ∷ true ∷ false ∷ true ∷ true ∷ true ∷ []
   -- a service is asked of another actor, on what is that one's

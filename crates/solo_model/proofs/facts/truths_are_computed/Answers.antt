@@ -157,6 +157,7 @@ returns c = record {
   no_cell_built = λ h. true≢false (sym h.1);
   no_cell_entered = λ h. true≢false (sym h.1);
   owned = (tt, refl);
+  not_given = refl;
   named = refl;
   served = record { fits = refl; there = refl; keys = refl; named = refl };
   not_on_itself = λ h. true≢false (sym h.fits);
