@@ -327,10 +327,12 @@ pub record WaysOutFacts : Type 0 where
   pub not_of_own : IsTrueIn [] (reaches 2 (reach.Waive (own 2)) (tells (own 2))) → ⊥
   pub xray_again : IsWayOut (actor 2) (reach.Unwaive (value.WaivedThing the_window)) (tells window)
   -- exportFunction: no function, one of the page, no scope, and a new function of the page
+  pub not_callable_first : IsWayOut (actor 2) (exports value.Null window) (refuses (codes "NotCallable"))
   pub not_callable : IsWayOut (actor 2) (exports (own 2) value.Null) (refuses (codes "NotCallable"))
   pub not_own : IsWayOut (actor 2) (exports (value.Cell (actor 1) 9 shape.Function true) value.Null) (refuses (codes "NotOwn"))
   pub no_scope : IsWayOut (actor 2) (exports (function_of 2) value.Null) (refuses (codes "ScopeDenied"))
   pub exported : IsWayOut (actor 2) (exports (function_of 2) (of_page 5)) (tells (value.Cell (actor 1) 400 shape.Function true))
+  pub exported_to_thing : IsWayOut (actor 2) (exports (function_of 2) (value.WaivedThing the_document)) (tells (value.Cell (actor 1) 400 shape.Function true))
   pub kept_in : IsWayOut (actor 2) (exports (function_of 2) window) (tells (function_of 2)) → ⊥
   -- createObjectIn
   pub created : IsWayOut (actor 2) (reach.CreateIn window value.Undefined) (tells (of_page 400))
@@ -341,6 +343,8 @@ pub record WaysOutFacts : Type 0 where
   pub function_refused : IsWayOut (actor 2) (clones (function_of 2) false false) (tells (value.Cell (actor 1) 400 shape.Function true)) → ⊥
   pub thing : IsWayOut (actor 2) (clones window false false) (refuses (codes "IsThing at "))
   pub thing_wrapped : IsWayOut (actor 2) (clones window false true) (tells (value.WaivedThing the_window))
+  pub waived_thing : IsWayOut (actor 2) (clones (value.WaivedThing the_window) true true) (refuses (codes "IsForeign at "))
+  pub own_error : IsWayOut (actor 2) (clones (value.Cell (actor 2) 304 shape.Error false) true true) (refuses (codes "IsForeign at "))
   pub foreign : IsWayOut (actor 2) (clones (of_page 5) true true) (refuses (codes "IsForeign at "))
   pub copied : IsWayOut (actor 2) (clones (own 2) false false) (tells (of_page 400))
   pub inside : IsWayOut (actor 2) (clones (own 2) false false) (refuses (codes "IsFunction at .a[1]"))
@@ -359,6 +363,7 @@ pub record WaysOutFacts : Type 0 where
   pub not_created : IsWayOut (actor 2) (reach.CreateIn value.Null value.Undefined) (refuses (codes "ScopeDenied"))
   -- an object of the page is waived, and the waiver of a primitive or an own object is itself; stopped ones tell nothing
   pub waives_cell : IsTrueIn [] (reaches 2 (reach.Waive (value.Cell (actor 1) 5 shape.Plain false)) (tells (of_page 5)))
+  pub not_twice : IsTrueIn [] (reaches 2 (reach.Waive (of_page 5)) (tells (of_page 5))) → ⊥
   pub own_again : IsWayOut (actor 2) (reach.Unwaive (own 2)) (tells (own 2))
   pub text_again : IsWayOut (actor 2) (reach.Unwaive (value.Str (codes "t"))) (tells (value.Str (codes "t")))
   pub stopped : IsTrueIn [] (reaches 2 (clones (own 2) false false) answer.Stopped)

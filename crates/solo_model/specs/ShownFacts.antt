@@ -91,10 +91,10 @@ journal =
     ∷ mark.Ask script (Peek page 300 (codes "a")) (answer.Value (door.Number (pos 1)))
     ∷ leaves ∷ []
 
--- the script asks for the nodes of a list, and then for the parent of its second
+-- the script asks for the nodes of a list, and then for the parent of its last
 abbrev asks_list : List Mark
 asks_list =
-    mark.Ask script (Native m.NodeChildNodes (element 9) []) (answer.List (door.Thing (element 5) ∷ door.Thing (element 4) ∷ door.Thing (element 5) ∷ []))
+    mark.Ask script (Native m.NodeChildNodes (element 9) []) (answer.List (door.Thing (element 5) ∷ door.Thing (element 5) ∷ door.Thing (element 4) ∷ []))
     ∷ mark.Ask script (Native m.NodeParentNode (element 4) []) (answer.Value (door.Thing (element 9))) ∷ []
 
 -- looks that tell objects of others: one of the page, one that is the script's own, and the first again
@@ -134,7 +134,7 @@ pub record ShownFacts : Type 0 where
       ≡ Requests (Native m.NodeChildNodes (element 2) []) ∷ Requests (Native m.NodeParentNode (element 4) []) ∷ []
   pub list_shows : shows_of (view_of script (starts ∷ asks_list))
       ≡ Enters (entry.Listener 301 (event 1) (element 2))
-      ∷ Answers (answer.List (door.Thing (element 3) ∷ door.Thing (element 4) ∷ door.Thing (element 3) ∷ []))
+      ∷ Answers (answer.List (door.Thing (element 3) ∷ door.Thing (element 3) ∷ door.Thing (element 4) ∷ []))
       ∷ Answers (answer.Value (door.Thing (element 2))) ∷ []
   -- objects of others are met in the same way, and an own one isn't
   pub objects : deeds_of (view_of script (carried ++ looks))
