@@ -132,6 +132,10 @@ by_class name = (record { tag = None; parts = Class name ∷ [] } ∷ []) ∷ []
 abbrev by_value : List ℕ → List (List Compound)
 by_value text = (record { tag = None; parts = Is (codes "value") text ∷ [] } ∷ []) ∷ []
 
+-- the element of the value `a` gets another one
+abbrev inputs_value : ℕ → List ℕ → Line
+inputs_value k text = Input k (by_value (codes "a")) text
+
 abbrev clicks_p : ℕ → Line
 clicks_p k = Click k (by_id (codes "p"))
 
@@ -408,7 +412,8 @@ pub record RunFacts : Type 0 where
   pub no_delay : Does (Tick 1 0 ∷ [])
       (timed (Asks m.WindowSetTimeout the_window (value.Cell (actor 1) 300 Function false ∷ value.Undefined ∷ []) ∷ []) 0 []) (timer 1 ∷ [])
   -- two that are set by the first, of which one has no delay: what Gecko printed
-  pub again : Does (Tick 1 500 ∷ []) (timed (sets_timer 100 300 ∷ sets_timer 150 301 ∷ sets_timer 300 302 ∷ []) 300 (sets_timer 100 303 ∷ sets_timer 0 304 ∷ []))
+  pub again : Does (Tick 1 500 ∷ [])
+      (timed (sets_timer 100 300 ∷ sets_timer 150 301 ∷ sets_timer 300 302 ∷ []) 300 (sets_timer 100 303 ∷ sets_timer 0 304 ∷ []))
       (timer 1 ∷ timer 5 ∷ timer 2 ∷ timer 4 ∷ timer 3 ∷ [])
   -- a timer that is set at a line is due by the ticks before that line
   pub clock_of_line : Does (Tick 1 100 ∷ clicks_p 2 ∷ Tick 3 49 ∷ []) sets_at_click (task.Line 2 ∷ [])
@@ -426,7 +431,7 @@ pub record RunFacts : Type 0 where
   pub input : Enters (Input 1 (by_tag (codes "p")) (codes "v") ∷ []) clicked (called 303 2 ∷ [])
   -- an input line finds its target before it sets the value, and then sends an event that bubbles and isn't cancelable; the next one goes by the
   -- value that is there then, and takes nothing
-  pub own_selector : answers_of (record given_value { lines = Input 1 (by_value (codes "a")) (codes "b") ∷ Input 2 (by_value (codes "a")) (codes "c") ∷ [] }) reads_value
+  pub own_selector : answers_of (record given_value { lines = inputs_value 1 (codes "b") ∷ inputs_value 2 (codes "c") ∷ [] }) reads_value
       ≡ Some (done ∷ tells_text (codes "b") ∷ tells_text (codes "input") ∷ tells_flag false ∷ tells_flag true ∷ tells_flag true ∷ tells (value.Thing p) ∷ [])
   -- a click bubbles and is cancelable
   pub click_line : answers_of (with_lines (clicks_p 1 ∷ [])) (asks_event (codes "click"))
@@ -443,7 +448,8 @@ pub record RunFacts : Type 0 where
   pub trusted : answers_of (with_lines (Click 1 (by_id (codes "p")) ∷ Event 2 (by_tag (codes "body")) (codes "go") ∷ [])) dispatches_again
       ≡ Some (done ∷ done ∷ tells_flag true ∷ tells_flag false ∷ tells_flag false ∷ [])
   -- an event by its name bubbles, and is cancelable and trusted; two lines are missed: what Gecko printed
-  pub event_line : answers_of (record given_two { lines = sends_kind 3 (codes "d") ∷ sends_kind 4 (codes "zz") ∷ Click 5 (by_id (codes "zz")) ∷ [] }) (asks_event (codes "my-kind"))
+  pub event_line : answers_of (record given_two { lines = sends_kind 3 (codes "d") ∷ sends_kind 4 (codes "zz") ∷ Click 5 (by_id (codes "zz")) ∷ [] })
+      (asks_event (codes "my-kind"))
       ≡ Some (done ∷ tells_text (codes "my-kind") ∷ tells_flag true ∷ tells_flag true ∷ tells_flag true ∷ tells (value.Thing d) ∷ [])
   -- at most four dispatches of an actor are unfinished: the fifth is refused, so the listener is called four times
   pub four : Enters [] nests (called 300 0 ∷ called 300 1 ∷ called 300 2 ∷ called 300 3 ∷ [])

@@ -138,7 +138,8 @@ pub record ShownFacts : Type 0 where
       ∷ Answers (answer.Value (door.Thing (element 2))) ∷ []
   -- objects of others are met in the same way, and an own one isn't
   pub objects : deeds_of (view_of script (carried ++ looks))
-      ≡ Requests (Native m.EventDetail (event 1) []) ∷ Requests (Peek page 0 (codes "a")) ∷ Requests (Peek page 1 (codes "b")) ∷ Requests (Peek page 1 (codes "c")) ∷ []
+      ≡ Requests (Native m.EventDetail (event 1) []) ∷ Requests (Peek page 0 (codes "a")) ∷ Requests (Peek page 1 (codes "b"))
+      ∷ Requests (Peek page 1 (codes "c")) ∷ []
   pub object_shows : shows_of (view_of script (carried ++ looks))
       ≡ Answers (answer.Value (door.Cell page 0 shape.Plain false)) ∷ Answers (answer.Value (door.Cell page 1 shape.Plain false))
       ∷ Answers (answer.Value (door.Cell the_host 301 shape.Plain false)) ∷ Answers (answer.Value (door.Cell page 0 shape.Plain false)) ∷ []
