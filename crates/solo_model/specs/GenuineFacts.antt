@@ -309,8 +309,9 @@ pub record GenuineFacts : Type 0 where
   pub not_of_it : IsTrueIn [] (serves 2 1 (own 2)) → ⊥
   pub not_named : IsTrueIn opened_page (sets 2 1 (own 3)) → ⊥
   pub named_then : IsTrueIn (gives 3 ∷ opened_page) (sets 2 1 (own 3))
-  -- what is served is there, and isn't what a closed script has kept
+  -- what is served is no refusal of a request, is there, and isn't what a closed script has kept
   pub told : IsTrueIn opened_page (mark.Served (actor 2) (tells (of_page 5)))
+  pub not_absent_there : IsTrueIn opened_page (mark.Served (actor 2) answer.Absent) → ⊥
   pub not_there : IsTrueIn opened_page (mark.Served (actor 2) (tells (value.Thing (element 9)))) → ⊥
   pub not_told : IsTrueIn opened_page (mark.Served (actor 2) (tells (own 3))) → ⊥
   -- what is exported may be defined on the window, and nothing else is asked of the page's window without its waiver

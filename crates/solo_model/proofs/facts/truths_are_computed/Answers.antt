@@ -164,7 +164,8 @@ returns c = record {
   not_of_it = λ h. true≢false (sym h.fits);
   not_named = λ h. true≢false (sym h.named);
   named_then = record { fits = refl; there = refl; keys = refl; named = refl };
-  told = record { there = refl; keys = refl; named = refl };
+  told = record { kind = refl; there = refl; keys = refl; named = refl };
+  not_absent_there = λ h. true≢false (sym h.kind);
   not_there = λ h. true≢false (sym h.there);
   not_told = λ h. true≢false (sym h.named);
   defined = record { fits = refl; there = refl; keys = refl; named = refl };
