@@ -7,7 +7,7 @@ use Rattle.dom_semantics.specs.Stage.{Setting}
 use Rattle.solo_model.specs.Acts.{Setups}
 use Rattle.solo_model.specs.Genuine.{AreTrueMarks}
 
-both_true : (a b : Bool) → a ≡ true → b ≡ true → (a && b) ≡ true
+pub both_true : (a b : Bool) → a ≡ true → b ≡ true → (a && b) ≡ true
 both_true true b h k = k
 both_true false b h k = absurd (true≢false (sym h))
 

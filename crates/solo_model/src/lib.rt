@@ -15,6 +15,6 @@ pub use facts::{
 pub use laws::{
     equal_shows_give_equal_deeds, equal_shows_of_a_run_give_equal_deeds,
     genuine_journals_name_no_cell_of_the_host, lawful_journals_end, names_tell_what_they_name,
-    reached_machines_act_alone, the_closed_front_is_the_longest,
+    no_line_sets_the_clock_back, reached_machines_act_alone, the_closed_front_is_the_longest,
     the_closed_front_of_a_run_is_the_longest,
 };
