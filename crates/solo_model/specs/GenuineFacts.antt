@@ -288,7 +288,7 @@ pub record GenuineFacts : Type 0 where
   pub no_keys : IsTrueIn [] (mark.Ask (actor 2) (PeekKeys (actor 1) 300) (answer.Keys []))
   pub denied : IsTrueIn (gives 3 ∷ []) (looks 2 3 answer.Denied)
   pub not_shown : IsTrueIn (gives 3 ∷ []) (looks 2 3 answer.Absent) → ⊥
-  -- a look fits the table: it tells no cell of the host, and is none at the host, at the asker itself, or by a key that is too long
+  -- a look fits the table: it tells no cell of the host, and is none at the host or at the asker itself
   pub no_cell_of_the_host : IsTrueIn [] (looks 2 1 (tells (value.Cell the_host 9 shape.Plain false))) → ⊥
   pub no_look_at_the_host : IsTrueIn [] (mark.Ask (actor 2) (PeekKeys the_host 1) answer.Denied) → ⊥
   pub no_look_at_itself : IsTrueIn [] (looks 2 2 answer.Denied) → ⊥
