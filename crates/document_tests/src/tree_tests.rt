@@ -1,7 +1,7 @@
 //! What trees do while there is memory.
 
-use super::*;
 use base_text::Text;
+use dom_tree::{NodeForm, NodeId, Tree, TreeFault};
 use door::Actor;
 use std::alloc::Global;
 use std::process::Abort;

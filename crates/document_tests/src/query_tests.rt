@@ -1,7 +1,7 @@
 //! One tree and what each query lists of it; texts that are no selectors and where that is sure.
 
-use crate::{SelectorFault, by_id, by_tag, parse_selector, select};
 use base_text::Text;
+use dom_query::{SelectorFault, by_id, by_tag, parse_selector, select};
 use dom_tree::{NodeForm, NodeId, Tree};
 use door::Actor;
 use std::alloc::{AllocError, Global};
