@@ -13,6 +13,8 @@ mod print_tests;
 #[cfg(test)]
 mod query_tests;
 #[cfg(test)]
+mod tree_steps;
+#[cfg(test)]
 mod tree_tests;
 #[cfg(test)]
 mod worked_tests;

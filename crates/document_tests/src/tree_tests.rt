@@ -1,183 +1,133 @@
 //! What trees do while there is memory.
 
-use base_text::Text;
-use dom_tree::{NodeForm, NodeId, Tree, TreeFault};
+use crate::tree_steps::Form::{Comment, Element, Str};
+use crate::tree_steps::Step::{
+    Attribute, Children, CloneNode, Count, Document, FirstChild, Insert, Make, NextSibling,
+    NoAttribute, Parent, Remove, Set, Text, Unset, Write,
+};
+use crate::tree_steps::{Done, HOST, Made, PAGE, Step, run, run_all};
+use dom_tree::{Tree, TreeFault};
 use door::Actor;
 use std::alloc::Global;
 use std::process::Abort;
 use std::test::Fail;
 
-const HOST: Actor = Actor(0);
+const OK: Done = Ok(());
 
-const PAGE: Actor = Actor(1);
+const HIERARCHY: Done = Err(TreeFault::Hierarchy);
 
-const DOCUMENT: NodeId = NodeId(0);
+const NOT_FOUND: Done = Err(TreeFault::NotFound);
 
-fn text(alloc: Global, s: &str) -> Result<Text, Fail> {
-    Ok(Text::of(alloc, s)?)
-}
+const TOO_DEEP: Done = Err(TreeFault::TooDeep);
 
-fn make(
-    rt: &impl Abort,
-    tree: &mut Tree,
-    maker: Actor,
-    form: NodeForm,
-) -> Result<NodeId, TreeFault> {
-    assert!(rt; tree.count() < 1_000_000);
-    tree.create(maker, form)
-}
-
-fn put(
-    rt: &impl Abort,
-    tree: &mut Tree,
-    parent: u32,
-    node: u32,
-    before: Option<NodeId>,
-) -> Result<(), TreeFault> {
-    assert!(rt; parent < tree.count());
-    assert!(rt; node < tree.count());
-    tree.insert(NodeId(parent), NodeId(node), before)
-}
-
-fn write(rt: &impl Abort, tree: &mut Tree, node: u32, t: &Text) -> Result<(), TreeFault> {
-    assert!(rt; 0 < node && node < tree.count());
-    assert!(rt; tree.count() < 1_000_000);
-    tree.set_text(PAGE, NodeId(node), t)
-}
-
-fn copy(
-    rt: &impl Abort,
-    tree: &mut Tree,
-    maker: Actor,
-    node: u32,
-    deep: bool,
-) -> Result<NodeId, TreeFault> {
-    assert!(rt; 0 < node && node < tree.count());
-    assert!(rt; tree.count() < 1_000_000);
-    tree.clone_node(maker, NodeId(node), deep)
-}
-
-fn set(rt: &impl Abort, tree: &mut Tree, node: u32, name: &Text, value: &Text) -> Result<(), Fail> {
-    assert!(rt; node < tree.count());
-    assert!(rt; matches!(tree.form(NodeId(node)), Some(NodeForm::Element(_))));
-    tree.set_attr(NodeId(node), name, value)?;
-    Ok(())
-}
-
-fn unset(rt: &impl Abort, tree: &mut Tree, name: &Text) -> bool {
-    assert!(rt; 2 < tree.count());
-    assert!(rt; matches!(tree.form(NodeId(2)), Some(NodeForm::Element(_))));
-    tree.drop_attr(NodeId(2), name)
-}
-
-fn has(rt: &impl Abort, tree: &Tree, node: u32, at: u32, name: &Text, value: &Text) -> bool {
-    assert!(rt; node < tree.count());
-    assert!(rt; matches!(tree.form(NodeId(node)), Some(NodeForm::Element(_))));
-    tree.attr_at(NodeId(node), at) == Some((name, value))
-        && tree.attr(NodeId(node), name) == Some(value)
-}
-
-fn above(rt: &impl Abort, tree: &Tree, node: u32) -> Option<NodeId> {
-    assert!(rt; node < tree.count());
-    tree.parent(NodeId(node))
-}
-
-fn under(rt: &impl Abort, tree: &Tree, node: u32, children: &[u32]) -> bool {
-    assert!(rt; node < tree.count());
-    tree.children(NodeId(node)) == children
-}
-
-fn reads(rt: &impl Abort, tree: &Tree, node: u32, t: &str, under: usize) -> Result<bool, Fail> {
-    assert!(rt; node < tree.count());
-    let text = tree.text_of(NodeId(node))?;
-    Ok(text.as_str() == t && tree.children(NodeId(node)).len() == under)
-}
+const TOO_MANY: Made = Err(TreeFault::NodeLimit);
 
 /// A document with the element html, in it the elements a and b with a text each, and a comment aside.
-fn grown(rt: &impl Abort, alloc: Global) -> Result<Tree, Fail> {
-    let mut tree = Tree::new(alloc)?;
-    make(rt, &mut tree, PAGE, NodeForm::Element(text(alloc, "html")?))?;
-    make(rt, &mut tree, PAGE, NodeForm::Element(text(alloc, "a")?))?;
-    make(rt, &mut tree, PAGE, NodeForm::Element(text(alloc, "b")?))?;
-    make(rt, &mut tree, PAGE, NodeForm::Str(text(alloc, "one ")?))?;
-    make(rt, &mut tree, PAGE, NodeForm::Str(text(alloc, "two")?))?;
-    make(
-        rt,
-        &mut tree,
-        PAGE,
-        NodeForm::Comment(text(alloc, "aside")?),
-    )?;
-    for (parent, child) in [(0, 1), (1, 2), (1, 3), (2, 4), (3, 5)] {
-        put(rt, &mut tree, parent, child, None)?;
-    }
-    Ok(tree)
-}
+const GROWN: &[Step<'static>] = &[
+    Make(PAGE, Element("html"), Ok(1)),
+    Make(PAGE, Element("a"), Ok(2)),
+    Make(PAGE, Element("b"), Ok(3)),
+    Make(PAGE, Str("one "), Ok(4)),
+    Make(PAGE, Str("two"), Ok(5)),
+    Make(PAGE, Comment("aside"), Ok(6)),
+    Insert(0, 1, None, OK),
+    Insert(1, 2, None, OK),
+    Insert(1, 3, None, OK),
+    Insert(2, 4, None, OK),
+    Insert(3, 5, None, OK),
+];
 
 #[test]
 fn insertions_are_refused_in_order(rt: HostRuntime) -> Result<(), Fail> {
-    let alloc = rt.alloc();
-    let mut tree = grown(&rt, alloc)?;
-    // parent, node, before, answer
-    let cases = [
-        (4, 6, None, Err(TreeFault::Hierarchy)),
-        (6, 4, None, Err(TreeFault::Hierarchy)),
-        (2, 1, None, Err(TreeFault::Hierarchy)),
-        (1, 1, None, Err(TreeFault::Hierarchy)),
-        (4, 6, Some(5), Err(TreeFault::Hierarchy)),
-        (1, 6, Some(4), Err(TreeFault::NotFound)),
-        (0, 4, Some(2), Err(TreeFault::NotFound)),
-        (0, 4, None, Err(TreeFault::Hierarchy)),
-        (0, 1, None, Err(TreeFault::Hierarchy)),
-        (0, 2, None, Err(TreeFault::Hierarchy)),
-        (0, 6, Some(1), Ok(())),
-        (1, 3, Some(2), Ok(())),
-        (1, 3, Some(3), Ok(())),
+    let steps = [
+        Insert(4, 6, None, HIERARCHY),
+        Insert(6, 4, None, HIERARCHY),
+        Insert(2, 1, None, HIERARCHY),
+        Insert(1, 1, None, HIERARCHY),
+        Insert(4, 6, Some(5), HIERARCHY),
+        Insert(1, 6, Some(4), NOT_FOUND),
+        Insert(0, 4, Some(2), NOT_FOUND),
+        Insert(0, 4, None, HIERARCHY),
+        Insert(0, 1, None, HIERARCHY),
+        Insert(0, 2, None, HIERARCHY),
+        Insert(0, 6, Some(1), OK),
+        Insert(1, 3, Some(2), OK),
+        Insert(1, 3, Some(3), OK),
+        Count(7),
+        Children(0, &[6, 1]),
+        Children(1, &[3, 2]),
+        Remove(2, 5, NOT_FOUND),
+        Remove(3, 5, OK),
+        Parent(5, None),
     ];
-    for (parent, node, before, want) in cases {
-        let before = before.map(|n| NodeId(n));
-        assert_eq!(rt; put(&rt, &mut tree, parent, node, before), want);
-    }
-    assert!(rt; tree.count() == 7);
-    assert!(rt; tree.children(DOCUMENT) == &[6, 1][..]);
-    assert!(rt; tree.children(NodeId(1)) == &[3, 2][..]);
-    assert_eq!(rt; tree.remove(NodeId(2), NodeId(5)), Err(TreeFault::NotFound));
-    assert_eq!(rt; tree.remove(NodeId(3), NodeId(5)), Ok(()));
-    assert_eq!(rt; tree.parent(NodeId(5)), None);
-    Ok(())
+    run_all(&rt, rt.alloc(), &[GROWN, &steps])
+}
+
+/// Two elements, texts and comments.
+const SIX: &[Step<'static>] = &[
+    Make(PAGE, Element("p"), Ok(1)),
+    Make(PAGE, Str("t"), Ok(2)),
+    Make(PAGE, Comment("c"), Ok(3)),
+    Make(PAGE, Element("p"), Ok(4)),
+    Make(PAGE, Str("t"), Ok(5)),
+    Make(PAGE, Comment("c"), Ok(6)),
+];
+
+/// Puts a node into another, where both are new.
+fn put(rt: &impl Abort, alloc: Global, parent: u32, child: u32, want: Done) -> Result<(), Fail> {
+    let one = [child];
+    let children = if want == OK { one.as_slice() } else { &[] };
+    let steps = [
+        Insert(parent, child, None, want),
+        Children(parent, children),
+    ];
+    run_all(rt, alloc, &[SIX, &steps])
 }
 
 #[test]
 fn kinds_stand_in_kinds(rt: HostRuntime) -> Result<(), Fail> {
-    let alloc = rt.alloc();
-    let refused = Err(TreeFault::Hierarchy);
-    // what stands in the document 0, an element, a text and a comment: these four again
-    let cases = [
-        (0, [refused, Ok(()), refused, Ok(())]),
-        (1, [refused, Ok(()), Ok(()), Ok(())]),
-        (2, [refused, refused, refused, refused]),
-        (3, [refused, refused, refused, refused]),
+    let rows = [
+        // In the document.
+        (0, 0, HIERARCHY),
+        (0, 4, OK),
+        (0, 5, HIERARCHY),
+        (0, 6, OK),
+        // In an element.
+        (1, 0, HIERARCHY),
+        (1, 4, OK),
+        (1, 5, OK),
+        (1, 6, OK),
+        // In a text.
+        (2, 0, HIERARCHY),
+        (2, 4, HIERARCHY),
+        (2, 5, HIERARCHY),
+        (2, 6, HIERARCHY),
+        // In a comment.
+        (3, 0, HIERARCHY),
+        (3, 4, HIERARCHY),
+        (3, 5, HIERARCHY),
+        (3, 6, HIERARCHY),
     ];
-    for (parent, wants) in cases {
-        for (child, want) in [0, 4, 5, 6].into_iter().zip(wants) {
-            let mut tree = Tree::new(alloc)?;
-            for _ in 0..2 {
-                make(&rt, &mut tree, PAGE, NodeForm::Element(text(alloc, "p")?))?;
-                make(&rt, &mut tree, PAGE, NodeForm::Str(text(alloc, "t")?))?;
-                make(&rt, &mut tree, PAGE, NodeForm::Comment(text(alloc, "c")?))?;
-            }
-            assert_eq!(rt; put(&rt, &mut tree, parent, child, None), want);
-            let count = if want == Ok(()) { 1 } else { 0 };
-            assert!(rt; under(&rt, &tree, parent, &[child][..count]));
-        }
+    for (parent, child, want) in rows {
+        put(&rt, rt.alloc(), parent, child, want)?;
     }
     Ok(())
 }
 
+/// Three comments in the document.
+const THREE: &[Step<'static>] = &[
+    Make(PAGE, Comment("c"), Ok(1)),
+    Insert(0, 1, None, OK),
+    Make(PAGE, Comment("c"), Ok(2)),
+    Insert(0, 2, None, OK),
+    Make(PAGE, Comment("c"), Ok(3)),
+    Insert(0, 3, None, OK),
+];
+
 #[test]
 fn children_move_within_their_parent(rt: HostRuntime) -> Result<(), Fail> {
-    let alloc = rt.alloc();
-    // the children 1, 2, 3 of the document, one of which moves
-    let cases = [
+    // The child that moves, before which one, and the children then.
+    let rows = [
         (1, Some(3), [2, 1, 3]),
         (1, None, [2, 3, 1]),
         (1, Some(2), [1, 2, 3]),
@@ -187,243 +137,246 @@ fn children_move_within_their_parent(rt: HostRuntime) -> Result<(), Fail> {
         (3, Some(2), [1, 3, 2]),
         (3, None, [1, 2, 3]),
     ];
-    for (node, before, want) in cases {
-        let mut tree = Tree::new(alloc)?;
-        for child in 1..=3 {
-            make(&rt, &mut tree, PAGE, NodeForm::Comment(text(alloc, "c")?))?;
-            put(&rt, &mut tree, 0, child, None)?;
-        }
-        put(&rt, &mut tree, 0, node, before.map(|n| NodeId(n)))?;
-        assert!(rt; under(&rt, &tree, 0, &want));
+    for (node, before, want) in rows {
+        let steps = [Insert(0, node, before, OK), Children(0, &want)];
+        run_all(&rt, rt.alloc(), &[THREE, &steps])?;
     }
     Ok(())
 }
 
 #[test]
 fn nodes_are_copied(rt: HostRuntime) -> Result<(), Fail> {
-    let alloc = rt.alloc();
-    let mut tree = grown(&rt, alloc)?;
-    let id = text(alloc, "id")?;
-    let class = text(alloc, "class")?;
-    for name in [&id, &class] {
-        set(&rt, &mut tree, 2, name, &id)?;
+    let copies = [
+        Set(2, "id", "id"),
+        Set(2, "class", "id"),
+        CloneNode(HOST, 2, false, Ok(7)),
+        CloneNode(HOST, 1, true, Ok(8)),
+        CloneNode(HOST, 6, true, Ok(13)),
+        Count(14),
+        // A change of the source leaves the copies.
+        Set(2, "id", "class"),
+        Children(1, &[2, 3]),
+        Children(2, &[4]),
+        Children(7, &[]),
+        Children(8, &[9, 11]),
+        Children(9, &[10]),
+        Children(11, &[12]),
+        Children(13, &[]),
+    ];
+    let asked = [
+        Attribute(7, 0, "id", "id"),
+        Attribute(7, 1, "class", "id"),
+        Attribute(9, 0, "id", "id"),
+        Attribute(9, 1, "class", "id"),
+        Parent(7, None),
+        Parent(8, None),
+        Parent(9, Some(8)),
+        Parent(12, Some(11)),
+        Parent(13, None),
+        Text(7, Ok("")),
+        Text(8, Ok("one two")),
+        Text(9, Ok("one ")),
+        Text(13, Ok("aside")),
+    ];
+    run_all(&rt, rt.alloc(), &[GROWN, &copies, &asked])
+}
+
+/// A maker makes so many elements.
+fn fill(rt: &impl Abort, alloc: Global, tree: &mut Tree, maker: Actor, count: u32) {
+    for _ in 0..count {
+        let next = tree.count();
+        run(rt, alloc, tree, &[Make(maker, Element("p"), Ok(next))]);
     }
-    assert_eq!(rt; copy(&rt, &mut tree, HOST, 2, false), Ok(NodeId(7)));
-    assert_eq!(rt; copy(&rt, &mut tree, HOST, 1, true), Ok(NodeId(8)));
-    assert_eq!(rt; copy(&rt, &mut tree, HOST, 6, true), Ok(NodeId(13)));
-    assert_eq!(rt; tree.count(), 14);
-    // a change of the source leaves the copies
-    set(&rt, &mut tree, 2, &id, &class)?;
-    for (node, children) in [
-        (1, &[2, 3][..]),
-        (2, &[4]),
-        (7, &[]),
-        (8, &[9, 11]),
-        (9, &[10]),
-        (11, &[12]),
-        (13, &[]),
-    ] {
-        assert!(rt; under(&rt, &tree, node, children));
-    }
-    for node in [7, 9] {
-        assert!(rt; has(&rt, &tree, node, 0, &id, &id));
-        assert!(rt; has(&rt, &tree, node, 1, &class, &id));
-    }
-    for (node, parent) in [
-        (7, None),
-        (8, None),
-        (9, Some(8)),
-        (12, Some(11)),
-        (13, None),
-    ] {
-        assert_eq!(rt; above(&rt, &tree, node), parent.map(|n| NodeId(n)));
-    }
-    for (node, want, count) in [
-        (7, "", 0),
-        (8, "one two", 2),
-        (9, "one ", 1),
-        (13, "aside", 0),
-    ] {
-        assert!(rt; reads(&rt, &tree, node, want, count)?);
-    }
-    Ok(())
 }
 
 #[test]
 fn copies_are_counted(rt: HostRuntime) -> Result<(), Fail> {
     let alloc = rt.alloc();
-    let mut tree = grown(&rt, alloc)?;
-    let tag = text(alloc, "p")?;
-    // the host has the document, and the page 6 nodes; a deep copy of node 1 has 5
-    for _ in 1..99_996 {
-        make(&rt, &mut tree, HOST, NodeForm::Element(tag.share()?))?;
-    }
-    let count = tree.count();
-    assert_eq!(rt;
-        copy(&rt, &mut tree, HOST, 1, true),
-        Err(TreeFault::NodeLimit)
-    );
-    assert_eq!(rt; tree.count(), count);
-    for _ in 0..4 {
-        assert!(rt; copy(&rt, &mut tree, HOST, 1, false).is_ok());
-    }
-    assert_eq!(rt;
-        copy(&rt, &mut tree, HOST, 1, false),
-        Err(TreeFault::NodeLimit)
-    );
-    for _ in 6..99_995 {
-        make(&rt, &mut tree, PAGE, NodeForm::Element(tag.share()?))?;
-    }
-    assert!(rt; copy(&rt, &mut tree, PAGE, 1, true).is_ok());
-    assert_eq!(rt;
-        copy(&rt, &mut tree, PAGE, 4, true),
-        Err(TreeFault::NodeLimit)
-    );
+    let mut tree = Tree::new(alloc)?;
+    run(&rt, alloc, &mut tree, GROWN);
+    // The host has the document, and the page 6 nodes; a deep copy of node 1 has 5.
+    fill(&rt, alloc, &mut tree, HOST, 99_995);
+    let host = [
+        CloneNode(HOST, 1, true, TOO_MANY),
+        Count(100_002),
+        CloneNode(HOST, 1, false, Ok(100_002)),
+        CloneNode(HOST, 1, false, Ok(100_003)),
+        CloneNode(HOST, 1, false, Ok(100_004)),
+        CloneNode(HOST, 1, false, Ok(100_005)),
+        CloneNode(HOST, 1, false, TOO_MANY),
+    ];
+    run(&rt, alloc, &mut tree, &host);
+    fill(&rt, alloc, &mut tree, PAGE, 99_989);
+    let page = [
+        CloneNode(PAGE, 1, true, Ok(199_995)),
+        CloneNode(PAGE, 4, true, TOO_MANY),
+    ];
+    run(&rt, alloc, &mut tree, &page);
     Ok(())
 }
 
 #[test]
 fn nodes_are_asked(rt: HostRuntime) -> Result<(), Fail> {
-    let tree = grown(&rt, rt.alloc())?;
-    assert!(rt; tree.count() == 7);
-    assert_eq!(rt; tree.parent(NodeId(4)), Some(NodeId(2)));
-    assert_eq!(rt; tree.first_child(NodeId(1)), Some(NodeId(2)));
-    assert_eq!(rt; tree.next_sibling(NodeId(2)), Some(NodeId(3)));
-    assert_eq!(rt; tree.next_sibling(NodeId(3)), None);
-    assert_eq!(rt; tree.next_sibling(DOCUMENT), None);
-    assert_eq!(rt; tree.first_child(NodeId(4)), None);
-    assert!(rt; tree.form(DOCUMENT).is_none());
-    assert!(rt; tree.attr_at(NodeId(2), 0).is_none());
-    for (node, want) in [
-        (0, "one two"),
-        (1, "one two"),
-        (3, "two"),
-        (5, "two"),
-        (6, "aside"),
-    ] {
-        assert!(rt; tree.text_of(NodeId(node))?.as_str() == want);
-    }
-    Ok(())
+    let steps = [
+        Count(7),
+        Parent(4, Some(2)),
+        FirstChild(1, Some(2)),
+        NextSibling(2, Some(3)),
+        NextSibling(3, None),
+        NextSibling(0, None),
+        FirstChild(4, None),
+        Document(0, true),
+        NoAttribute(2, 0),
+        Text(0, Ok("one two")),
+        Text(1, Ok("one two")),
+        Text(3, Ok("two")),
+        Text(5, Ok("two")),
+        Text(6, Ok("aside")),
+    ];
+    run_all(&rt, rt.alloc(), &[GROWN, &steps])
 }
 
 #[test]
 fn attributes_keep_their_places(rt: HostRuntime) -> Result<(), Fail> {
-    let alloc = rt.alloc();
-    let mut tree = grown(&rt, alloc)?;
-    let id = text(alloc, "id")?;
-    let class = text(alloc, "class")?;
-    let x = text(alloc, "x")?;
-    let y = text(alloc, "y")?;
-    for (name, value) in [(&id, &x), (&class, &x), (&id, &y)] {
-        set(&rt, &mut tree, 2, name, value)?;
-    }
-    assert!(rt; has(&rt, &tree, 2, 0, &id, &y));
-    assert!(rt; has(&rt, &tree, 2, 1, &class, &x));
-    assert!(rt; unset(&rt, &mut tree, &id));
-    assert!(rt; !unset(&rt, &mut tree, &id));
-    assert!(rt; has(&rt, &tree, 2, 0, &class, &x));
-    Ok(())
+    let steps = [
+        Set(2, "id", "x"),
+        Set(2, "class", "x"),
+        Set(2, "id", "y"),
+        Attribute(2, 0, "id", "y"),
+        Attribute(2, 1, "class", "x"),
+        Unset(2, "id", true),
+        Unset(2, "id", false),
+        Attribute(2, 0, "class", "x"),
+    ];
+    run_all(&rt, rt.alloc(), &[GROWN, &steps])
 }
 
 #[test]
 fn texts_are_replaced(rt: HostRuntime) -> Result<(), Fail> {
-    let alloc = rt.alloc();
-    let mut tree = grown(&rt, alloc)?;
-    for (node, t, under) in [(6, "y", 0), (1, "x", 1), (1, "", 0), (1, "z", 1)] {
-        write(&rt, &mut tree, node, &text(alloc, t)?)?;
-        assert!(rt; reads(&rt, &tree, node, t, under)?);
-    }
-    assert_eq!(rt; tree.count(), 9);
-    Ok(())
+    let steps = [
+        Write(6, "y", OK),
+        Text(6, Ok("y")),
+        Children(6, &[]),
+        Write(1, "x", OK),
+        Text(1, Ok("x")),
+        Children(1, &[7]),
+        Write(1, "", OK),
+        Text(1, Ok("")),
+        Children(1, &[]),
+        Write(1, "z", OK),
+        Text(1, Ok("z")),
+        Children(1, &[8]),
+        Count(9),
+    ];
+    run_all(&rt, rt.alloc(), &[GROWN, &steps])
 }
 
 #[test]
 fn texts_are_limited(rt: HostRuntime) -> Result<(), Fail> {
-    let alloc = rt.alloc();
-    let mut tree = grown(&rt, alloc)?;
-    let most = "x".repeat(alloc, 262_144)?;
-    // node 1 has the texts 4 and 5 below it, and node 3 the text 5
-    for (node, t) in [(4, ""), (5, most.as_str()), (6, most.as_str())] {
-        write(&rt, &mut tree, node, &text(alloc, t)?)?;
+    let most = "x".repeat(rt.alloc(), 262_144)?;
+    let most = most.as_str();
+    // Node 1 has the texts 4 and 5 below it, and node 3 the text 5.
+    let steps = [
+        Write(4, "", OK),
+        Write(5, most, OK),
+        Write(6, most, OK),
+        Text(0, Ok(most)),
+        Children(0, &[1]),
+        Text(1, Ok(most)),
+        Children(1, &[2, 3]),
+        Text(3, Ok(most)),
+        Children(3, &[5]),
+        Text(5, Ok(most)),
+        Children(5, &[]),
+        Text(6, Ok(most)),
+        Children(6, &[]),
+        Write(4, "y", OK),
+        Text(0, Err(TreeFault::TooLong)),
+        Text(1, Err(TreeFault::TooLong)),
+        Text(3, Ok(most)),
+        Children(3, &[5]),
+    ];
+    run_all(&rt, rt.alloc(), &[GROWN, &steps])
+}
+
+/// Elements of the page, each below the one before, the first below the document.
+fn chain(rt: &impl Abort, alloc: Global, tree: &mut Tree, length: u32) {
+    for parent in 0..length {
+        let node = parent + 1;
+        let steps = [
+            Make(PAGE, Element("p"), Ok(node)),
+            Insert(parent, node, None, OK),
+        ];
+        run(rt, alloc, tree, &steps);
     }
-    for (node, under) in [(0, 1), (1, 2), (3, 1), (5, 0), (6, 0)] {
-        assert!(rt; reads(&rt, &tree, node, &most, under)?);
-    }
-    write(&rt, &mut tree, 4, &text(alloc, "y")?)?;
-    assert!(rt; 3 < tree.count());
-    assert_eq!(rt; tree.text_of(DOCUMENT), Err(TreeFault::TooLong));
-    assert_eq!(rt; tree.text_of(NodeId(1)), Err(TreeFault::TooLong));
-    assert!(rt; reads(&rt, &tree, 3, &most, 1)?);
-    Ok(())
 }
 
 #[test]
 fn depth_is_limited(rt: HostRuntime) -> Result<(), Fail> {
-    let alloc = rt.alloc();
-    let mut tree = Tree::new(alloc)?;
-    let tag = text(alloc, "p")?;
-    // node n is n steps below the document
-    for n in 1..=256 {
-        make(&rt, &mut tree, PAGE, NodeForm::Element(tag.share()?))?;
-        put(&rt, &mut tree, n - 1, n, None)?;
-    }
-    for _ in 0..3 {
-        make(&rt, &mut tree, PAGE, NodeForm::Element(tag.share()?))?;
-    }
-    make(&rt, &mut tree, PAGE, NodeForm::Str(tag.share()?))?;
-    make(&rt, &mut tree, PAGE, NodeForm::Comment(tag.share()?))?;
-    put(&rt, &mut tree, 257, 258, None)?;
-    // parent, node, before, answer; the element 257 has the child 258
-    let cases = [
-        (256, 257, None, Err(TreeFault::TooDeep)),
-        (256, 259, None, Err(TreeFault::TooDeep)),
-        (256, 260, None, Err(TreeFault::TooDeep)),
-        (256, 261, None, Err(TreeFault::TooDeep)),
-        (255, 257, None, Err(TreeFault::TooDeep)),
-        (255, 257, Some(256), Err(TreeFault::TooDeep)),
-        (256, 257, Some(256), Err(TreeFault::NotFound)),
-        (256, 2, None, Err(TreeFault::Hierarchy)),
-        (255, 259, Some(256), Ok(())),
-        (255, 260, None, Ok(())),
-        (255, 261, None, Ok(())),
-        (254, 257, None, Ok(())),
-        (258, 259, None, Err(TreeFault::TooDeep)),
-        (257, 259, None, Ok(())),
+    let mut tree = Tree::new(rt.alloc())?;
+    // Node n is n steps below the document.
+    chain(&rt, rt.alloc(), &mut tree, 256);
+    let aside = [
+        Make(PAGE, Element("p"), Ok(257)),
+        Make(PAGE, Element("p"), Ok(258)),
+        Make(PAGE, Element("p"), Ok(259)),
+        Make(PAGE, Str("p"), Ok(260)),
+        Make(PAGE, Comment("p"), Ok(261)),
+        Insert(257, 258, None, OK),
     ];
-    for (parent, node, before, want) in cases {
-        let before = before.map(|n| NodeId(n));
-        assert_eq!(rt;
-            put(&rt, &mut tree, parent, node, before),
-            want,
-            "{node} in {parent}"
-        );
-    }
-    assert_eq!(rt; write(&rt, &mut tree, 256, &tag), Err(TreeFault::TooDeep));
-    assert_eq!(rt; write(&rt, &mut tree, 256, &text(alloc, "")?), Ok(()));
-    assert_eq!(rt; write(&rt, &mut tree, 255, &tag), Ok(()));
+    let steps = [
+        Insert(256, 257, None, TOO_DEEP),
+        Insert(256, 259, None, TOO_DEEP),
+        Insert(256, 260, None, TOO_DEEP),
+        Insert(256, 261, None, TOO_DEEP),
+        Insert(255, 257, None, TOO_DEEP),
+        Insert(255, 257, Some(256), TOO_DEEP),
+        Insert(256, 257, Some(256), NOT_FOUND),
+        Insert(256, 2, None, HIERARCHY),
+        Insert(255, 259, Some(256), OK),
+        Insert(255, 260, None, OK),
+        Insert(255, 261, None, OK),
+        Insert(254, 257, None, OK),
+        Insert(258, 259, None, TOO_DEEP),
+        Insert(257, 259, None, OK),
+        Write(256, "p", TOO_DEEP),
+        Write(256, "", OK),
+        Write(255, "p", OK),
+    ];
+    run(&rt, rt.alloc(), &mut tree, &aside);
+    run(&rt, rt.alloc(), &mut tree, &steps);
     Ok(())
+}
+
+/// Puts elements below each other; a text would be one node of the page more, however deep it stood.
+fn chain_without_texts(rt: &impl Abort, alloc: Global, tree: &mut Tree, length: u32) {
+    for parent in 0..length {
+        let node = parent + 1;
+        let steps = [
+            Insert(parent, node, None, OK),
+            Write(node, "p", Err(TreeFault::NodeLimit)),
+        ];
+        run(rt, alloc, tree, &steps);
+    }
 }
 
 #[test]
 fn makers_are_limited(rt: HostRuntime) -> Result<(), Fail> {
     let alloc = rt.alloc();
     let mut tree = Tree::new(alloc)?;
-    let tag = text(alloc, "p")?;
-    // the host has made the document
-    for (maker, first) in [(HOST, 2), (PAGE, 1)] {
-        for _ in first..=100_000 {
-            make(&rt, &mut tree, maker, NodeForm::Element(tag.share()?))?;
-        }
-        let more = make(&rt, &mut tree, maker, NodeForm::Element(tag.share()?));
-        assert_eq!(rt; more, Err(TreeFault::NodeLimit));
+    // The host has made the document.
+    for (maker, more) in [(HOST, 99_999), (PAGE, 100_000)] {
+        fill(&rt, alloc, &mut tree, maker, more);
+        run(
+            &rt,
+            alloc,
+            &mut tree,
+            &[Make(maker, Element("p"), TOO_MANY)],
+        );
     }
-    assert_eq!(rt; tree.count(), 200_000);
-    assert!(rt; make(&rt, &mut tree, Actor(2), NodeForm::Element(tag.share()?)).is_ok());
-    // a text would be one node of the page more, however deep it stood
-    for n in 1..=256 {
-        put(&rt, &mut tree, n - 1, n, None)?;
-        assert_eq!(rt; write(&rt, &mut tree, n, &tag), Err(TreeFault::NodeLimit));
-    }
-    assert_eq!(rt; write(&rt, &mut tree, 256, &text(alloc, "")?), Ok(()));
+    let other = [Count(200_000), Make(Actor(2), Element("p"), Ok(200_000))];
+    run(&rt, alloc, &mut tree, &other);
+    chain_without_texts(&rt, alloc, &mut tree, 256);
+    run(&rt, alloc, &mut tree, &[Write(256, "", OK)]);
     Ok(())
 }
