@@ -117,7 +117,7 @@ one_more given setting before at p (Turn task) same few h =
     let now : Progress = progress_of before in
     let P : Progress → Type 0 = λ q. q.turns < TASK_LIMIT in
     let room : now.turns < TASK_LIMIT =
-        turn_in given (stage_of setting (take now.before before)) (course_of setting before) now now.unfinished (allowed_turn given before (next_of given setting before) task h) in
+    turn_in given (stage_of setting (take now.before before)) (course_of setting before) now now.unfinished (allowed_turn given before (next_of given setting before) task h) in
     one_below p.turns TASK_LIMIT (subst P (sym same) room)
 one_more given setting before at p (Build request) same few h = few
 one_more given setting before at p (Enter i entry) same few h = few
@@ -137,7 +137,7 @@ few_turns given setting before (mark ∷ marks) few h =
     let P : List Mark → Type 0 = λ marks. (progress_of marks).turns ≤ TASK_LIMIT in
     let Q : Progress → Type 0 = λ p. p.turns ≤ TASK_LIMIT in
     let more : Q (progress_of (before ++ mark ∷ [])) =
-        subst Q (sym (progress_from-append 0 at_first before (mark ∷ []))) (one_more given setting before (0 + length before) (progress_of before) mark refl few h.0) in
+    subst Q (sym (progress_from-append 0 at_first before (mark ∷ []))) (one_more given setting before (0 + length before) (progress_of before) mark refl few h.0) in
     subst P (append_assoc before (mark ∷ []) marks) (few_turns given setting (before ++ mark ∷ []) marks more h.1)
 
 nothing_before : (limit : ℕ) → 0 ≤ limit

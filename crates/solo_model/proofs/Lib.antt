@@ -10,3 +10,4 @@ pub mod OneName
 pub mod Growing
 pub mod Alone
 pub mod Ends
+pub mod Owners

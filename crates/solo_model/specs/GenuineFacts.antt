@@ -5,7 +5,6 @@ use Rattle.std.specs.List.{flat_map}
 use Rattle.door.specs.declared.values.Actor.{Actor}
 use Rattle.door.specs.declared.values.Kind.TheVariants.{Element}
 use Rattle.door.specs.declared.values.Shape.TheVariants as shape
-use Rattle.door.specs.declared.values.Thing.{Thing}
 use Rattle.door.specs.declared.values.Value.{Value}
 use Rattle.door.specs.declared.values.Value.TheVariants as value
 use Rattle.door.specs.declared.members.Member.TheVariants as m
@@ -154,7 +153,7 @@ abbrev looks : ℕ → ℕ → Answer → Mark
 looks i owner a = mark.Ask (actor i) (Peek (actor owner) 301 (codes "k")) a
 
 -- the page's timer calls Array, which makes an empty list as the page's first object; and looks at its length
-abbrev made_list : List Mark
+abbrev pub made_list : List Mark
 made_list = mark.Enter (actor 1) (entry.Timer 13) ∷ mark.Leave (actor 1) Done 0 ∷ []
 
 abbrev looks_at_length : Answer → Mark

@@ -1,5 +1,5 @@
 -- What an Xray shows of an object, and what actors see of marks, computed by the definitions alone.
-use Rattle.std.specs.Prelude.{◌≡◌, ℕ, Bool, true, false, List, [], ◌∷◌, ◌++◌, codes, Some, None, pos}
+use Rattle.std.specs.Prelude.{◌≡◌, ℕ, true, false, List, [], ◌∷◌, ◌++◌, codes, Some, None, pos}
 use Rattle.door.specs.declared.values.Actor.{Actor}
 use Rattle.door.specs.declared.values.Kind.TheVariants.{Element, Event}
 use Rattle.door.specs.declared.values.Shape.TheVariants as shape

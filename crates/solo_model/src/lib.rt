@@ -13,7 +13,8 @@ pub use facts::{
     ways_out_are_computed,
 };
 pub use laws::{
-    equal_shows_give_equal_deeds, equal_shows_of_a_run_give_equal_deeds, lawful_journals_end,
-    names_tell_what_they_name, reached_machines_act_alone, the_closed_front_is_the_longest,
+    equal_shows_give_equal_deeds, equal_shows_of_a_run_give_equal_deeds,
+    genuine_journals_name_no_cell_of_the_host, lawful_journals_end, names_tell_what_they_name,
+    reached_machines_act_alone, the_closed_front_is_the_longest,
     the_closed_front_of_a_run_is_the_longest,
 };

@@ -1,4 +1,4 @@
-use Rattle.std.proofs.Common.{ap, refl, sym, true≢false, Bool, true, false}
+use Rattle.std.proofs.Common.{ap, refl, sym, true≢false, Bool, false}
 use Rattle.std.specs.Char.{encode_utf8}
 use Rattle.dom_semantics.specs.Forest.{DEPTH_LIMIT, NODE_LIMIT}
 use Rattle.dom_semantics.specs.Listeners.{LISTENER_LIMIT}

@@ -120,7 +120,7 @@ returns c = record {
     answered = record {
       denied = refl;
       told = λ xray closed.
-        record { levels = LEVELS; machine = left_by array_entry; back = waits_no_more; waits = (array_entry, refl, (refl, refl)); shown = refl };
+          record { levels = LEVELS; machine = left_by array_entry; back = waits_no_more; waits = (array_entry, refl, (refl, refl)); shown = refl };
     };
     names = refl;
     tells = refl;
