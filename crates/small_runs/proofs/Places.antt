@@ -28,16 +28,18 @@ further n node f kind found s = record { place = suc s.place; same = omega (arit
 here : (n : ℕ) (node : Node) (f : Forest) (kind : Kind) → Some (kind_of_form node.form) ≡ Some kind → Stands n (node ∷ f) kind n
 here n node f kind e = record { place = 0; same = omega arith; there = omega arith; kind_is = same_some _ kind e }
 
+own_by : (b : Bool) (n k d : ℕ) (node : Node) (f : Forest) (kind : Kind)
+    → ((j : ℕ) → slice_get (own_kinds f) j ≡ Some kind → Stands (n + 1) f kind (slice_index_or (numbers_from (n + 1) f) j d))
+    → slice_get (if b then kind_of_form node.form ∷ own_kinds f else own_kinds f) k ≡ Some kind
+    → Stands n (node ∷ f) kind (slice_index_or (if b then n ∷ numbers_from (n + 1) f else numbers_from (n + 1) f) k d)
+own_by true n zero d node f kind later h = here n node f kind h
+own_by true n (suc k) d node f kind later h = further n node f kind (slice_index_or (numbers_from (n + 1) f) k d) (later k h)
+own_by false n k d node f kind later h = further n node f kind (slice_index_or (numbers_from (n + 1) f) k d) (later k h)
+
 -- the page's k-th own node
 own_stands : (n k d : ℕ) (f : Forest) (kind : Kind) → slice_get (own_kinds f) k ≡ Some kind → Stands n f kind (slice_index_or (numbers_from n f) k d)
 own_stands n k d [] kind e = absurd cc
-own_stands n k d (node ∷ f) kind e = by (is_actor node.maker the_host) k e
-  where
-    by : (b : Bool) (k : ℕ) → slice_get (if b then kind_of_form node.form ∷ own_kinds f else own_kinds f) k ≡ Some kind
-        → Stands n (node ∷ f) kind (slice_index_or (if b then n ∷ numbers_from (n + 1) f else numbers_from (n + 1) f) k d)
-    by true zero h = here n node f kind h
-    by true (suc j) h = further n node f kind _ (own_stands (n + 1) j d f kind h)
-    by false j h = further n node f kind _ (own_stands (n + 1) j d f kind h)
+own_stands n k d (node ∷ f) kind e = own_by (is_actor node.maker the_host) n k d node f kind (λ j h. own_stands (n + 1) j d f kind h) e
 
 kind_self : (kind : Kind) → is_kind kind kind ≡ true
 kind_self kind = own_eq (kind_number kind)

@@ -1,5 +1,10 @@
 -- What the host writes of a page: each request has a reply, and makes of the nodes what it made of them before.
 use Rattle.std.proofs.Common.{◌≡◌, ◌∙◌, ap, sym, refl, subst, true≢false, ℕ, ◌+◌, ◌<◌, ◌≤◌, ◌&&◌, Bool, true, false, List, [], ◌∷◌, ◌++◌, arith, codes, length, map, nat_le, if◌then◌else◌, slice_get, slice_index_or, Option, Some, None, IsSome, is_some}
+use Rattle.std.proofs.lemmas.Bool.Decides.{nat_tests}
+use Rattle.base_text.specs.Scalars.{utf8_len}
+use Rattle.base_text.specs.declared.text.TheConstants.{TEXT_LIMIT}
+use Rattle.small_forms.specs.declared.limits.TheConstants.{SMALL_PAGE_LIMIT}
+use Rattle.small_meaning.proofs.Texts.{short_text}
 use Rattle.door.specs.declared.values.Actor.{Actor}
 use Rattle.door.specs.declared.values.Kind.{Kind}
 use Rattle.door.specs.declared.values.Kind.TheVariants.{Window, Document, Element, Str as StrKind, Comment, Event}
@@ -26,7 +31,7 @@ use Rattle.small_eval.specs.Builds.{appended, unless_told}
 use Rattle.small_eval.specs.Pieces.{appends, creates, identifies, writes}
 use Rattle.solo_model.specs.Stage as old
 use Rattle.solo_model.specs.Turns.{numbers_from, placed, placed_request}
-use Rattle.small_runs.proofs.Made.{made-attribute, made-inserted, kinds_in, own-created, own_kinds}
+use Rattle.small_runs.proofs.Made.{made, made-inserted}
 use Rattle.small_runs.proofs.Places.{placed_there, placed_thing}
 
 -- what is written of a page
@@ -111,6 +116,13 @@ row_replies origin s i member thing arguments fits granted there =
 both : (a b : Bool) → a ≡ true → b ≡ true → (a && b) ≡ true
 both a b h k = rw (h, k) refl
 
+within : (n m : ℕ) → n ≤ m → nat_le n m ≡ true
+within n m h = grind (arith, nat_tests)
+
+-- a text of a page is within the limit of texts
+pub short_of : (t : List ℕ) → length t ≤ SMALL_PAGE_LIMIT → is_short t ≡ true
+short_of t h = within (utf8_len t) TEXT_LIMIT (short_text t h)
+
 -- ---- the rows
 
 unless_none : (reason : Option ErrorKind) (s : Stage) (value : Value) (next : Stage) → reason ≡ None → Comes (unless reason s (gives value next)) next
@@ -120,7 +132,7 @@ unless_either : (reason : Option ErrorKind) (s : Stage) (value : Value) (f : For
 unless_either None s value f = refl
 unless_either (Some reason) s value f = refl
 
-comes_by : (a b : Option Reply) (s : Stage) → a ≡ b → Comes b s → Comes a s
+pub comes_by : (a b : Option Reply) (s : Stage) → a ≡ b → Comes b s → Comes a s
 comes_by a b s e h = rw e h
 
 -- the document, which is asked to create, is there
@@ -142,7 +154,7 @@ makes_text origin s n text there short free =
 pub makes_id : (origin : Origin) (s : Stage) (n : ℕ) (id : List ℕ) → has_node s.nodes (thing_of Element n) ≡ true → is_short id ≡ true
     → Makes origin s (Native ElementSetAttribute (thing_of Element n) (Str (codes "id") ∷ (Str id ∷ []))) (with_attribute s.nodes n (codes "id") id)
 makes_id origin s n id there short =
-    comes_by _ _ _ (row_replies origin s the_host ElementSetAttribute (thing_of Element n) (Str (codes "id") ∷ (Str id ∷ [])) (rw short refl) refl (rw there refl)) refl
+    comes_by _ _ _ (row_replies origin s the_host ElementSetAttribute (thing_of Element n) (Str (codes "id") ∷ (Str id ∷ [])) (rw (short_of (codes "id") (omega arith), short) refl) refl (rw there refl)) refl
 
 -- a node is there as a thing and as an argument
 node_there : (s : Stage) (kind : Kind) (n : ℕ) → is_node_kind kind ≡ true → has_node s.nodes (thing_of kind n) ≡ true → has_thing s (thing_of kind n) ≡ true
@@ -173,9 +185,16 @@ makes_child origin s kind n child m node other there known =
 
 -- ---- the same of what was said before
 
-old_appended : (s : old.Stage) (kind : Kind) (n : ℕ) (child : Kind) (m : ℕ) → (old.built s (appends (thing_of kind n) (thing_of child m))).nodes ≡ appended s.nodes n m
+pub old_appended : (s : old.Stage) (kind : Kind) (n : ℕ) (child : Kind) (m : ℕ) → (old.built s (appends (thing_of kind n) (thing_of child m))).nodes ≡ appended s.nodes n m
 old_appended s kind n child m = by (insert_refusal s.nodes n m None)
   where
     by : (reason : Option ErrorKind) → (old.unless_refused reason s (old.with_nodes s (inserted s.nodes n m None))).nodes ≡ unless_told reason s.nodes (inserted s.nodes n m None)
     by None = refl
+    by (Some reason) = refl
+
+pub made-appended : (f : Forest) (n m : ℕ) → made (appended f n m) ≡ made f
+made-appended f n m = by (insert_refusal f n m None)
+  where
+    by : (reason : Option ErrorKind) → made (unless_told reason f (inserted f n m None)) ≡ made f
+    by None = made-inserted f n m None
     by (Some reason) = refl
