@@ -6,3 +6,4 @@ pub mod Same
 pub mod Views
 pub mod Going
 pub mod Events
+pub mod Givens
