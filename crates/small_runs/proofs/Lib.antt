@@ -7,3 +7,4 @@ pub mod Views
 pub mod Going
 pub mod Events
 pub mod Givens
+pub mod Asks

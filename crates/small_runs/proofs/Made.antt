@@ -45,7 +45,7 @@ made-attribute f n name value = made-set f n _ refl
 abbrev pub Grows : Actor → Forest → Forest → Type 0
 Grows i f g = (more : List Kind) × (made g ≡ made f ++ map (λ kind. (i, kind)) more)
 
-same_grows : (i : Actor) (f g : Forest) → made g ≡ made f → Grows i f g
+pub same_grows : (i : Actor) (f g : Forest) → made g ≡ made f → Grows i f g
 same_grows i f g e = ([], e ∙ sym (append-nil (made f)))
 
 one_grows : (i : Actor) (f : Forest) (form : Form) (g : Forest) → made g ≡ made (created f i form) → Grows i f g
