@@ -8,3 +8,4 @@ pub mod Going
 pub mod Events
 pub mod Givens
 pub mod Asks
+pub mod Sound
