@@ -9,3 +9,4 @@ pub mod Events
 pub mod Givens
 pub mod Asks
 pub mod Sound
+pub mod Sending

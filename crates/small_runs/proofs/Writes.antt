@@ -89,11 +89,11 @@ Comes (Some reply) next = reply.next ≡ next
 abbrev pub Makes : Origin → Stage → Request → Forest → Type 0
 Makes origin s request nodes = Comes (reply_to origin s the_host request) (with_nodes s nodes)
 
-came : (reply : Option Reply) (next : Stage) → Comes reply next → IsSome reply
+pub came : (reply : Option Reply) (next : Stage) → Comes reply next → IsSome reply
 came None next h = absurd h
 came (Some reply) next h = refl
 
-came_to : (reply : Option Reply) (s next : Stage) → Comes reply next → next_or reply s ≡ next
+pub came_to : (reply : Option Reply) (s next : Stage) → Comes reply next → next_or reply s ≡ next
 came_to None s next h = absurd h
 came_to (Some reply) s next h = h
 
