@@ -58,7 +58,7 @@ pub record Answers (s : Stage) (reply : Option Reply) (answer : Answer) (before 
 same_answer : (x y : Answer) → Some x ≡ Some y → y ≡ x
 same_answer x y e = cc
 
-only_told : (owner thing : Thing) (x given : Answer) → only_of owner thing x ≡ Some given → (is_thing owner thing ≡ true) × (given ≡ x)
+pub only_told : (owner thing : Thing) (x given : Answer) → only_of owner thing x ≡ Some given → (is_thing owner thing ≡ true) × (given ≡ x)
 only_told owner thing x given e = by (is_thing owner thing) refl e
   where
     by : (b : Bool) → is_thing owner thing ≡ b → (if b then Some x else None) ≡ Some given → (is_thing owner thing ≡ true) × (given ≡ x)

@@ -10,3 +10,5 @@ pub mod Givens
 pub mod Asks
 pub mod Sound
 pub mod Sending
+pub mod Entering
+pub mod Building
