@@ -12,3 +12,4 @@ pub mod Sound
 pub mod Sending
 pub mod Entering
 pub mod Building
+pub mod Turning
