@@ -13,3 +13,4 @@ pub mod Sending
 pub mod Entering
 pub mod Building
 pub mod Turning
+pub mod Running
