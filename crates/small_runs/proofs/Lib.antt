@@ -14,3 +14,4 @@ pub mod Entering
 pub mod Building
 pub mod Turning
 pub mod Running
+pub mod Paging
