@@ -15,3 +15,4 @@ pub mod Building
 pub mod Turning
 pub mod Running
 pub mod Paging
+pub mod Tasks
