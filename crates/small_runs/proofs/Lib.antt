@@ -16,3 +16,4 @@ pub mod Turning
 pub mod Running
 pub mod Paging
 pub mod Tasks
+pub mod Tame
