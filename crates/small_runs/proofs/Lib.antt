@@ -17,3 +17,4 @@ pub mod Running
 pub mod Paging
 pub mod Tasks
 pub mod Tame
+pub mod Lockstep
