@@ -18,3 +18,4 @@ pub mod Paging
 pub mod Tasks
 pub mod Tame
 pub mod Lockstep
+pub mod Seeing
