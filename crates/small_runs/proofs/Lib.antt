@@ -19,3 +19,5 @@ pub mod Tasks
 pub mod Tame
 pub mod Lockstep
 pub mod Seeing
+pub mod Acting
+pub mod Closing
