@@ -21,3 +21,5 @@ pub mod Lockstep
 pub mod Seeing
 pub mod Acting
 pub mod Closing
+pub mod Readings
+pub mod Setups

@@ -1,13 +1,18 @@
 -- What a run of the small forms is given; this project's own.
-use Rattle.std.specs.Prelude.{◌≡◌, ◌≤◌, ℕ, true, List, [], ◌∷◌, length, map, Option, Some}
+use Rattle.std.specs.Prelude.{◌≡◌, ◌≢◌, ◌≤◌, ℕ, true, List, [], ◌∷◌, length, map, nat_eq, if◌then◌else◌, Option, Some}
 use Rattle.base_text.specs.Scalars.{utf8_len}
 use Rattle.door.specs.declared.grants.GrantSet.{GrantSet}
 use Rattle.door.specs.declared.limits.TheConstants.{ADDRESS_LIMIT, USERSCRIPT_LIMIT}
+use Rattle.door.specs.declared.marks.Mark.{Mark}
+use Rattle.door.specs.declared.values.Actor.{Actor}
+use Rattle.door.specs.declared.zones.Zone.TheVariants.{Page, XrayScript}
 use Rattle.dom_semantics.specs.declared.selectors.Compound.{Compound}
+use Rattle.dom_semantics.specs.Forest.{the_host}
 use Rattle.dom_semantics.specs.Grants.{no_grants}
 use Rattle.dom_semantics.specs.Stage.{IsReading}
 use Rattle.small_forms.specs.declared.userscript.Userscript.{Userscript}
 use Rattle.small_forms.specs.Scripts.{IsUserscript}
+use Rattle.solo_model.specs.Closed.{ActsAreSolo, ActsAreSoloSoFar, Setups}
 use Rattle.solo_model.specs.Given as given
 use Rattle.solo_model.specs.Given.{DocumentEnd, Given}
 use Rattle.solo_model.specs.Lawful.{Input, Piece}
@@ -54,3 +59,16 @@ pub record IsSmall (address : List ℕ) (scripts : List Userscript) (read : List
   pub few : length scripts ≤ USERSCRIPT_LIMIT
   pub forms : AreUserscripts scripts
   pub owners : given.are_apart (given.owners_in (map script_given scripts)) ≡ true
+
+-- what the actors of a small run are set up with, as it was said before: the page is actor 1, and every other that runs is a userscript
+abbrev pub small_setups : List ℕ → Setups
+small_setups address i =
+    if nat_eq i.0 1 then record { zone = Page; grants = no_grants; address = address } else record { zone = XrayScript; grants = log_grant; address = address }
+
+-- every actor but the host does what its own machine does, as it was said before
+abbrev pub AllActsAreSolo : List ℕ → List Mark → Type 0
+AllActsAreSolo address marks = (i : Actor) → i ≢ the_host → ActsAreSolo (small_setups address) i marks
+
+-- the same of a run that was cut off
+abbrev pub AllActsAreSoloSoFar : List ℕ → List Mark → Type 0
+AllActsAreSoloSoFar address marks = (i : Actor) → i ≢ the_host → ActsAreSoloSoFar (small_setups address) i marks
