@@ -23,3 +23,4 @@ pub mod Acting
 pub mod Closing
 pub mod Readings
 pub mod Setups
+pub mod Right
