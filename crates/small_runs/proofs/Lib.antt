@@ -24,3 +24,4 @@ pub mod Closing
 pub mod Readings
 pub mod Setups
 pub mod Right
+pub mod Partly

@@ -48,13 +48,13 @@ pub record Of (given : Given) (input : Input) : Type 0 where
   pub lines : given.lines ≡ []
   pub few : length (first_tasks given) < TASK_LIMIT
 
-got_map : {A B : Type 0} (f : A → B) (xs : List A) (k : ℕ) (x : A) → slice_get xs k ≡ Some x → slice_get (map f xs) k ≡ Some (f x)
+pub got_map : {A B : Type 0} (f : A → B) (xs : List A) (k : ℕ) (x : A) → slice_get xs k ≡ Some x → slice_get (map f xs) k ≡ Some (f x)
 got_map f [] k x e = absurd cc
 got_map f (y ∷ xs) Prim.Native.Nat.zero x e = ap (λ o. option_and_then (λ z. Some (f z)) o) e
 got_map f (y ∷ xs) (Prim.Native.Nat.suc k) x e = got_map f xs k x e
 
 -- a turn begins
-begun : (given : Given) (input : Input) (kinds : List Kind) (marks : List Mark) (n : ℕ) (task : Task) → Of given input → Stopped given kinds marks n
+pub begun : (given : Given) (input : Input) (kinds : List Kind) (marks : List Mark) (n : ℕ) (task : Task) → Of given input → Stopped given kinds marks n
     → slice_get (first_tasks given) n ≡ Some task → IsSmallTask task → Rattle.small_runs.proofs.Courses.IsNoLine (Turn task)
     → Written given marks n task kinds (marks ++ Turn task ∷ []) 0
 begun given input kinds marks n task of s got small no_line =
@@ -66,7 +66,7 @@ stopped_at given kinds marks turn n task s = let P : List Mark → Type 0 = λ m
 
 -- ---- pieces
 
-steps_long : (ws : List Write) → length (write_steps ws) ≡ length ws
+pub steps_long : (ws : List Write) → length (write_steps ws) ≡ length ws
 steps_long ws = length-map (map request_of ws) (λ request. Rattle.solo_model.specs.Turns.Places request) ∙ length-map ws request_of
 
 abbrev Scripts : Given → List Mark → Task → Option (List ℕ) → List Write → Type 0
@@ -122,7 +122,7 @@ piece_turn given input kinds marks n m piece ws turn of s got known writes are b
 
 -- ---- starts
 
-no_host : (m : ℕ) → is_actor (userscript m) the_host ≡ false
+pub no_host : (m : ℕ) → is_actor (userscript m) the_host ≡ false
 no_host m = differs m
   where
     differs : (k : ℕ) → nat_eq (k + 2) 0 ≡ false
