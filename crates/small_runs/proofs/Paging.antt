@@ -11,7 +11,7 @@ use Rattle.small_eval.specs.Pieces.{after_blocks, after_script, block_writes, he
 use Rattle.small_forms.specs.declared.limits.TheConstants.{PAGE_SCRIPT_LIMIT, SMALL_PAGE_LIMIT}
 use Rattle.small_forms.specs.declared.page.Page.{Page}
 use Rattle.small_forms.specs.declared.page.PageScript.{PageScript}
-use Rattle.small_forms.specs.Pages.{IsPage, blocks_text, element_text, script_texts}
+use Rattle.small_forms.specs.Pages.{IsPage, blocks_text, element_text, texts_of_scripts}
 use Rattle.solo_model.specs.Given.{are_cut}
 use Rattle.solo_model.specs.Lawful.{Piece}
 use Rattle.small_runs.proofs.Building.{begins_all, few_after_all}
@@ -162,14 +162,18 @@ paged_from kinds ws n (text ∷ texts) are long body short few =
     let many : length own_ws ≡ length ws + length (script_ws n text) = length-append ws (script_ws n text) in
     let P : List Kind → Type 0 = λ ks. Paged ks (pieces_from (after_script n text) [] texts) in
     let more : List Kind = kinds_after_all (kinds_after_all kinds ws) (script_ws n text) in
-    let few_kinds : length more ≤ length kinds + length ws + 4 = omega (arith, few_after_all (kinds_after_all kinds ws) (script_ws n text), few_after_all kinds ws, script_few n text) in
-    (own_ws, told, all, omega (arith, few, many, script_few n text),
-    subst P (sym (after_append kinds ws (script_ws n text)))
-    (paged_from more [] (after_script n text) texts tt (script_many (kinds_after_all kinds ws) n text long) (script_body (kinds_after_all kinds ws) n text body) short.1 (omega (arith, few, few_kinds))))
+    let few_kinds : length more ≤ length kinds + length ws + 4 = omega (arith, few_after_all (kinds_after_all kinds ws) (script_ws n text), few_after_all kinds ws, script_few n text) in (
+      own_ws,
+      told,
+      all,
+      omega (arith, few, many, script_few n text),
+      subst P (sym (after_append kinds ws (script_ws n text)))
+          (paged_from more [] (after_script n text) texts tt (script_many (kinds_after_all kinds ws) n text long) (script_body (kinds_after_all kinds ws) n text body) short.1 (omega (arith, few, few_kinds))),
+    )
 
 -- ---- a page
 
-texts_short : (scripts : List PageScript) (most : ℕ) → most ≤ SMALL_PAGE_LIMIT → length (flat_map element_text scripts) ≤ most → AreShort (script_texts scripts)
+texts_short : (scripts : List PageScript) (most : ℕ) → most ≤ SMALL_PAGE_LIMIT → length (flat_map element_text scripts) ≤ most → AreShort (texts_of_scripts scripts)
 texts_short [] most small h = tt
 texts_short (script ∷ scripts) most small h =
     let whole = length-append (element_text script) (flat_map element_text scripts) in
@@ -180,7 +184,7 @@ texts_short (script ∷ scripts) most small h =
 -- no text of a page is longer than the page
 pub record PageTexts (page : Page) : Type 0 where
   pub title : length page.title ≤ SMALL_PAGE_LIMIT
-  pub scripts : AreShort (script_texts page.scripts)
+  pub scripts : AreShort (texts_of_scripts page.scripts)
 
 pub page_texts_short : (bytes : List ℕ) (page : Page) → IsPage bytes page → PageTexts page
 page_texts_short bytes page h =
@@ -203,10 +207,10 @@ pub page_paged : (bytes : List ℕ) (page : Page) → IsPage bytes page → Page
 page_paged bytes page h =
     let texts = page_texts_short bytes page h in
     let ws : List Write = begun_ws page.title page.blocks in
-    let P : List Request → Type 0 = λ rs. Paged (Document ∷ []) (pieces_from (after_blocks page.blocks) rs (script_texts page.scripts)) in
-    let many : length (script_texts page.scripts) ≡ length page.scripts = length-map page.scripts (λ (script : PageScript). script.text) in
+    let P : List Request → Type 0 = λ rs. Paged (Document ∷ []) (pieces_from (after_blocks page.blocks) rs (texts_of_scripts page.scripts)) in
+    let many : length (texts_of_scripts page.scripts) ≡ length page.scripts = length-map page.scripts (λ (script : PageScript). script.text) in
     subst P (sym (begun_told page.title page.blocks))
-    (paged_from (Document ∷ []) ws (after_blocks page.blocks) (script_texts page.scripts) (begun_are page.title page.blocks texts.title) (begun_many page.title page.blocks)
+    (paged_from (Document ∷ []) ws (after_blocks page.blocks) (texts_of_scripts page.scripts) (begun_are page.title page.blocks texts.title) (begun_many page.title page.blocks)
     (begun_body page.title page.blocks) texts.scripts (omega (arith, many, h.few, begun_few page.title page.blocks)))
 
 -- it is cut at its scripts
@@ -216,7 +220,7 @@ cut_from n begun (text ∷ []) = refl
 cut_from n begun (text ∷ (next ∷ texts)) = cut_from (after_script n text) [] (next ∷ texts)
 
 pub page_cut : (page : Page) → are_cut (map piece_given (pieces_of page)) ≡ true
-page_cut page = cut_from (after_blocks page.blocks) (head_writes page.title ++ block_writes page.blocks) (script_texts page.scripts)
+page_cut page = cut_from (after_blocks page.blocks) (head_writes page.title ++ block_writes page.blocks) (texts_of_scripts page.scripts)
 
 pub pieces_few : (n : ℕ) (begun : List Request) (texts : List (List ℕ)) → length (pieces_from n begun texts) ≡ length texts + 1
 pieces_few n begun [] = refl

@@ -17,7 +17,7 @@ use Rattle.small_forms.specs.declared.page.Page.{Page as OnePage}
 use Rattle.small_forms.specs.declared.page.PageScript.{PageScript}
 use Rattle.small_forms.specs.declared.script.Line.{Line}
 use Rattle.small_forms.specs.declared.userscript.Userscript.{Userscript}
-use Rattle.small_forms.specs.Pages.{ArePageScripts, IsPage, script_texts}
+use Rattle.small_forms.specs.Pages.{ArePageScripts, IsPage, texts_of_scripts}
 use Rattle.small_forms.specs.Scripts.{IsPageScript, IsUserscript}
 use Rattle.small_meaning.specs.Rows.{Reads}
 use Rattle.small_meaning.specs.Shows.{FitsEntry}
@@ -46,7 +46,7 @@ script_read : (script : PageScript) (piece : Piece) (text : List ℕ) → IsPage
 script_read script piece text h e k = subst (Readable Page) (same_some script.text text (e ∙ k)) (script.lines, h)
 
 pieces_read : (n : ℕ) (begun : List Request) (scripts : List PageScript) (k : ℕ) (piece : Piece) (text : List ℕ) → ArePageScripts scripts
-    → slice_get (pieces_from n begun (script_texts scripts)) k ≡ Some piece → piece.script ≡ Some text → Readable Page text
+    → slice_get (pieces_from n begun (texts_of_scripts scripts)) k ≡ Some piece → piece.script ≡ Some text → Readable Page text
 pieces_read n begun [] zero piece text h e k = absurd (no_some text (ap (λ (p : Piece). p.script) (same_some _ piece e) ∙ k))
 pieces_read n begun [] (suc j) piece text h e k = absurd cc
 pieces_read n begun (script ∷ scripts) zero piece text h e k = script_read script piece text h.0 (ap (λ (p : Piece). p.script) (same_some _ piece e)) k
@@ -131,4 +131,4 @@ starts_fit laws zone (script ∷ scripts) h = (fits laws zone script.text (omega
 
 pub all_fit : (laws : SmallLaws) (zone : Zone) (bytes : List ℕ) (page : OnePage) (scripts : List Userscript) → IsPage bytes page → AreUserscripts scripts
     → AllGiven (λ text. FitsEntry zone (Script text)) (input_of (pieces_of page) scripts)
-all_fit laws zone bytes page scripts h forms = record { pieces = pieces_fit laws zone _ _ (script_texts page.scripts) (page_texts_short bytes page h).scripts; starts = starts_fit laws zone scripts forms }
+all_fit laws zone bytes page scripts h forms = record { pieces = pieces_fit laws zone _ _ (texts_of_scripts page.scripts) (page_texts_short bytes page h).scripts; starts = starts_fit laws zone scripts forms }

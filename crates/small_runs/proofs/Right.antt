@@ -33,7 +33,7 @@ use Rattle.small_eval.specs.Pieces.{after_blocks, block_writes, head_writes, pie
 use Rattle.small_forms.specs.declared.page.Page.{Page as OnePage}
 use Rattle.small_forms.specs.declared.page.PageScript.{PageScript}
 use Rattle.small_forms.specs.declared.userscript.Userscript.{Userscript}
-use Rattle.small_forms.specs.Pages.{IsPage, script_texts}
+use Rattle.small_forms.specs.Pages.{IsPage, texts_of_scripts}
 use Rattle.small_meaning.specs.Shows.{FitsEntry, IsText, entries_in}
 use Rattle.small_meaning.proofs.Shown.{EntersOnly, entered, entries_few, shown_fit, tasks_length, turns_enter}
 use Rattle.solo_model.specs.Acts.{ActsAreSolo, setups_of}
@@ -294,14 +294,14 @@ all_solo address marks plain acts i other =
 few_tasks : (bytes : List ℕ) (page : OnePage) (scripts : List Userscript) → IsPage bytes page → length scripts ≤ USERSCRIPT_LIMIT → length (tasks_of (input_of (pieces_of page) scripts)) ≤ 1000
 few_tasks bytes page scripts is few =
     let count = tasks_length (input_of (pieces_of page) scripts) in
-    let pieces = pieces_few (after_blocks page.blocks) (head_writes page.title ++ block_writes page.blocks) (script_texts page.scripts) in
+    let pieces = pieces_few (after_blocks page.blocks) (head_writes page.title ++ block_writes page.blocks) (texts_of_scripts page.scripts) in
     let texts = length-map page.scripts (λ (script : PageScript). script.text) in
     let starts = length-map scripts (λ (script : Userscript). script.text) in
     omega (arith, count, pieces, texts, starts, is.few, few)
 
 few_pieces : (bytes : List ℕ) (page : OnePage) → IsPage bytes page → length (pieces_of page) ≤ 1000
 few_pieces bytes page is =
-    let pieces = pieces_few (after_blocks page.blocks) (head_writes page.title ++ block_writes page.blocks) (script_texts page.scripts) in
+    let pieces = pieces_few (after_blocks page.blocks) (head_writes page.title ++ block_writes page.blocks) (texts_of_scripts page.scripts) in
     let texts = length-map page.scripts (λ (script : PageScript). script.text) in
     omega (arith, pieces, texts, is.few)
 
@@ -314,7 +314,7 @@ whole_journal address bytes page scripts read marks laws small is lawful said =
     let input : Input = input_of (pieces_of page) scripts in
     let few = few_tasks bytes page scripts is small.few in
     let entries : (zone : Zone) → EntersOnly (λ text. FitsEntry zone (Script text)) 1000 marks = λ zone.
-        enters_most _ _ 1000 marks few (turns_enter (λ text. FitsEntry zone (Script text)) input [] (tasks_of input) marks (all_fit laws.small zone bytes page scripts is small.forms) lawful) in
+    enters_most _ _ 1000 marks few (turns_enter (λ text. FitsEntry zone (Script text)) input [] (tasks_of input) marks (all_fit laws.small zone bytes page scripts is small.forms) lawful) in
     let arranged = turns_arranged input [] (tasks_of input) marks lawful in
     record {
       is_page = is;
