@@ -26,3 +26,4 @@ pub mod Setups
 pub mod Right
 pub mod Partly
 pub mod RunningSoFar
+pub mod SoFar

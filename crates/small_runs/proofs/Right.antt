@@ -224,7 +224,7 @@ host_other : (i j : Actor) → is_actor the_host i ≡ false → j ≡ the_host 
 host_other i j other e = ap (λ k. is_actor k i) e ∙ other
 
 -- one that doesn't act sees nothing
-unseen : (input : Input) (i : Actor) (met : old_view.Met) (before marks : List Mark) → is_actor the_host i ≡ false → (By input i → ⊥) → ArePlain marks → AllOf input marks
+pub unseen : (input : Input) (i : Actor) (met : old_view.Met) (before marks : List Mark) → is_actor the_host i ≡ false → (By input i → ⊥) → ArePlain marks → AllOf input marks
     → truth.IsGenuineAfter before marks → old_view.view_from i met marks ≡ []
 unfolding old_view.view_from
 unseen input i met before [] other none plain of said = refl
@@ -251,7 +251,7 @@ unseen input i met before (mark ∷ marks) other none plain of said = absurd pla
 abbrev pub SoloWhole : Setup → Actor → List Mark → List Deed → Type 0
 SoloWhole setup i marks due = IsSoloFrom enters (beginning setup) (shows_of (view_of i marks)) (deeds_of (view_of i marks) ++ due)
 
-whole_of : (setup : Setup) (i : Actor) (marks : List Mark) (due : List Deed) → ArePlain marks → SoloView setup i marks due → SoloWhole setup i marks due
+pub whole_of : (setup : Setup) (i : Actor) (marks : List Mark) (due : List Deed) → ArePlain marks → SoloView setup i marks due → SoloWhole setup i marks due
 whole_of setup i marks due plain solo =
     let alike : Alike (old_view.view_of i marks) (view_of i marks) = same_views i marks plain in
     let Shown : List Show → Type 0 = λ shows. IsSoloFrom enters (beginning setup) shows (deeds_of (view_of i marks) ++ due) in
@@ -259,14 +259,14 @@ whole_of setup i marks due plain solo =
     subst Shown (sym alike.shows) (subst Done (sym alike.deeds) solo)
 
 -- the setups of those that act are the same
-same_setup : (address : List ℕ) (pieces : List Piece) (scripts : List Userscript) (read : List ℕ → Option (List (List Compound))) (i : Actor) → By (input_of pieces scripts) i
+pub same_setup : (address : List ℕ) (pieces : List Piece) (scripts : List Userscript) (read : List ℕ → Option (List (List Compound))) (i : Actor) → By (input_of pieces scripts) i
     → small_setups address i ≡ setups_of (given_of address pieces scripts read) i
 same_setup address pieces scripts read i (inl is) =
     let P : Actor → Type 0 = λ a. small_setups address a ≡ setups_of (given_of address pieces scripts read) a in subst P (sym is) (same_page address pieces scripts read)
 same_setup address pieces scripts read i (inr (m, text, got, is)) =
     let P : Actor → Type 0 = λ a. small_setups address a ≡ setups_of (given_of address pieces scripts read) a in subst P (sym is) (same_script address pieces scripts read m text got)
 
-nothing_done : (setup : Setup) (i : Actor) (marks : List Mark) → ArePlain marks → old_view.view_of i marks ≡ [] → SoloWhole setup i marks []
+pub nothing_done : (setup : Setup) (i : Actor) (marks : List Mark) → ArePlain marks → old_view.view_of i marks ≡ [] → SoloWhole setup i marks []
 unfolding IsSoloFrom old_deeds.shows_of old_deeds.deeds_of
 nothing_done setup i marks plain e =
     let P : List old_view.Seen → Type 0 = λ seen. IsSoloFrom enters (beginning setup) (old_deeds.shows_of seen) (old_deeds.deeds_of seen ++ []) in
@@ -274,13 +274,13 @@ nothing_done setup i marks plain e =
 
 -- ---- a whole run
 
-host_apart : (i : Actor) → 1 ≤ i.0 → is_actor the_host i ≡ false
+pub host_apart : (i : Actor) → 1 ≤ i.0 → is_actor the_host i ≡ false
 host_apart i h = differ i.0 h
   where
     differ : (n : ℕ) → 1 ≤ n → nat_eq 0 n ≡ false
     differ n k = grind (arith, nat_tests)
 
-no_host : (i : Actor) → 1 ≤ i.0 → i ≢ the_host
+pub no_host : (i : Actor) → 1 ≤ i.0 → i ≢ the_host
 no_host i h e = none i.0 h (ap (λ (a : Actor). a.0) e)
   where
     none : (n : ℕ) → 1 ≤ n → n ≡ zero → ⊥
@@ -291,7 +291,7 @@ all_solo address marks plain acts i other =
     let P : List Deed → Type 0 = λ deeds. old.AreSolo (small_setups address) i marks deeds in
     old_whole (small_setups address) i marks [] (small_apart address) plain (subst P (sym (append-nil (old.closed_deeds (small_setups address) i marks))) (acts i other))
 
-few_tasks : (bytes : List ℕ) (page : OnePage) (scripts : List Userscript) → IsPage bytes page → length scripts ≤ USERSCRIPT_LIMIT → length (tasks_of (input_of (pieces_of page) scripts)) ≤ 1000
+pub few_tasks : (bytes : List ℕ) (page : OnePage) (scripts : List Userscript) → IsPage bytes page → length scripts ≤ USERSCRIPT_LIMIT → length (tasks_of (input_of (pieces_of page) scripts)) ≤ 1000
 few_tasks bytes page scripts is few =
     let count = tasks_length (input_of (pieces_of page) scripts) in
     let pieces = pieces_few (after_blocks page.blocks) (head_writes page.title ++ block_writes page.blocks) (script_texts page.scripts) in
@@ -299,7 +299,7 @@ few_tasks bytes page scripts is few =
     let starts = length-map scripts (λ (script : Userscript). script.text) in
     omega (arith, count, pieces, texts, starts, is.few, few)
 
-few_pieces : (bytes : List ℕ) (page : OnePage) → IsPage bytes page → length (pieces_of page) ≤ 1000
+pub few_pieces : (bytes : List ℕ) (page : OnePage) → IsPage bytes page → length (pieces_of page) ≤ 1000
 few_pieces bytes page is =
     let pieces = pieces_few (after_blocks page.blocks) (head_writes page.title ++ block_writes page.blocks) (script_texts page.scripts) in
     let texts = length-map page.scripts (λ (script : PageScript). script.text) in
@@ -328,7 +328,7 @@ whole_journal address bytes page scripts read marks laws small is lawful said =
       forms = small.forms;
     }
 
-same_setting : (given : Given) (marks : List Mark) → given.stores ≡ [] → clocks_from given.lines 0 marks ≡ [] → setting_of given marks ≡ setting given
+pub same_setting : (given : Given) (marks : List Mark) → given.stores ≡ [] → clocks_from given.lines 0 marks ≡ [] → setting_of given marks ≡ setting given
 same_setting given marks stores clocks =
     let of : Rattle.dom_semantics.specs.Stores.Stores → List (ℕ × ℕ) → Setting = λ s c. record { origin = origin_of given; stores = s; clocks = c } in
     ap (λ s. of s (clocks_from given.lines 0 marks)) stores ∙ ap (of []) clocks

@@ -7,10 +7,10 @@ ghost use Rattle.small_eval.specs.Pieces.{pieces_of};
 ghost use Rattle.small_forms.specs.Pages.{IsPage};
 ghost use Rattle.small_forms.specs.declared.page.Page.{Page};
 ghost use Rattle.small_forms.specs.declared.userscript.Userscript.{Userscript};
-ghost use Rattle.small_runs.specs.SmallGiven.{AllActsAreSolo, IsSmall, given_of, input_of, piece_given};
+ghost use Rattle.small_runs.specs.SmallGiven.{AllActsAreSolo, AllActsAreSoloSoFar, IsSmall, given_of, input_of, piece_given};
 ghost use Rattle.solo_model.specs.Given.{IsGiven, are_cut};
-ghost use Rattle.solo_model.specs.Lawful.{IsLawful, Piece};
-ghost use Rattle.solo_model.specs.Right.{IsRight};
+ghost use Rattle.solo_model.specs.Lawful.{IsLawful, IsLawfulSoFar, Piece};
+ghost use Rattle.solo_model.specs.Right.{IsRight, IsRightSoFar};
 ghost use Rattle.solo_model.specs.Truth.{IsGenuine};
 
 use small_scripts::{page_scripts_spell_their_lines, userscripts_spell_their_lines};
@@ -28,6 +28,18 @@ pub fn small_runs_are_right()
         → IsSmall address scripts read → IsPage bytes page
         → IsLawful (input_of (pieces_of page) scripts) marks → IsGenuine marks → AllActsAreSolo address marks
         → IsRight (given_of address (pieces_of page) scripts read) marks }
+{
+    entries_go_on_one_way();
+    page_scripts_spell_their_lines();
+    userscripts_spell_their_lines();
+}
+
+/// The same of a run that was cut off.
+pub fn small_runs_are_right_so_far()
+    ensures { (address bytes : List ℕ) (page : Page) (scripts : List Userscript) (read : List ℕ → Option (List (List Compound))) (marks : List Mark)
+        → IsSmall address scripts read → IsPage bytes page
+        → IsLawfulSoFar (input_of (pieces_of page) scripts) marks → IsGenuine marks → AllActsAreSoloSoFar address marks
+        → IsRightSoFar (given_of address (pieces_of page) scripts read) marks }
 {
     entries_go_on_one_way();
     page_scripts_spell_their_lines();
