@@ -1,15 +1,12 @@
 -- What a small run is given is in order.
-use Rattle.std.proofs.Common.{◌≡◌, ◌∙◌, ap, sym, refl, subst, true≢false, ℕ, ◌<◌, ◌≤◌, ◌&&◌, Bool, true, false, not, List, [], ◌∷◌, ◌++◌, All, arith, length, map, nat_le, Option, bytes_eq}
+use Rattle.std.proofs.Common.{◌≡◌, ◌∙◌, ap, sym, refl, true≢false, ℕ, ◌<◌, ◌≤◌, true, false, List, [], ◌∷◌, ◌++◌, All, arith, length, map, nat_le, Option, bytes_eq}
 use Rattle.std.specs.List.{list_all}
 use Rattle.std.proofs.lemmas.Bool.Decides.{nat_tests}
 use Rattle.std.proofs.lemmas.List.{length-map}
 use Rattle.std.proofs.lemmas.List.Elements.{All-nil, All-cons}
 use Rattle.base_text.specs.Scalars.{utf8_len}
-use Rattle.door.specs.declared.grants.GrantSet.{GrantSet}
 use Rattle.door.specs.declared.limits.TheConstants.{ADDRESS_LIMIT, USERSCRIPT_LIMIT}
-use Rattle.dom_semantics.specs.declared.kept.Owner.{Owner}
 use Rattle.dom_semantics.specs.declared.selectors.Compound.{Compound}
-use Rattle.dom_semantics.specs.Bounds.{is_short}
 use Rattle.dom_semantics.specs.Stage.{is_grant_set}
 use Rattle.dom_semantics.specs.Stores.{is_short_owner}
 use Rattle.small_forms.specs.declared.limits.TheConstants.{SMALL_PAGE_LIMIT}

@@ -1,5 +1,5 @@
 -- A small run that was right is right by the whole definitions.
-use Rattle.std.proofs.Common.{◌≡◌, ◌≢◌, ◌⊎◌, ◌∙◌, inl, inr, ap, sym, refl, subst, true≢false, ℕ, ◌+◌, ◌<◌, ◌≤◌, Bool, true, false, List, [], ◌∷◌, ◌++◌, append-nil, arith, length, map, nat_eq, nat_le, if◌then◌else◌, slice_get, Option, Some, None}
+use Rattle.std.proofs.Common.{◌≡◌, ◌≢◌, ◌⊎◌, ◌∙◌, inl, inr, ap, sym, refl, subst, ℕ, ◌+◌, ◌≤◌, Bool, true, false, List, [], ◌∷◌, ◌++◌, append-nil, arith, length, nat_eq, nat_le, Option, None}
 use Prim.Native.Nat.{zero, suc}
 use Rattle.std.proofs.lemmas.Bool.Decides.{nat_tests}
 use Rattle.std.proofs.lemmas.List.{length-map}
@@ -7,7 +7,6 @@ use Rattle.base_text.specs.Scalars.{utf8_len}
 use Rattle.base_text.specs.declared.text.TheConstants.{TEXT_LIMIT}
 use Rattle.door.specs.declared.limits.TheConstants.{USERSCRIPT_LIMIT}
 use Rattle.door.specs.declared.values.Actor.{Actor}
-use Rattle.door.specs.declared.values.Kind.TheVariants.{Document}
 use Rattle.door.specs.declared.values.Thing.{Thing}
 use Rattle.door.specs.declared.values.Value.{Value}
 use Rattle.door.specs.declared.values.Value.TheVariants.{Str}
@@ -15,13 +14,12 @@ use Rattle.door.specs.declared.zones.Zone.{Zone}
 use Rattle.door.specs.declared.zones.Zone.TheVariants.{Page, XrayScript}
 use Rattle.door.specs.declared.members.Member.{Member}
 use Rattle.door.specs.declared.members.Member.TheVariants.{WindowDocument, DocumentTitle, DocumentSetTitle, GmLog, ConsoleLog}
-use Rattle.door.specs.declared.requests.Request.{Request}
-use Rattle.door.specs.declared.requests.Request.TheVariants.{Native, Peek, PeekKeys, Reach}
+use Rattle.door.specs.declared.requests.Request.TheVariants.{Native}
 use Rattle.door.specs.declared.marks.Entry.TheVariants.{Script}
 use Rattle.door.specs.declared.marks.Outcome.{Outcome}
 use Rattle.door.specs.declared.marks.Outcome.TheVariants.{Done, Throw, Stop, Syntax}
 use Rattle.door.specs.declared.marks.Mark.{Mark}
-use Rattle.door.specs.declared.marks.Mark.TheVariants.{Turn, Build, Enter, Ask, Dispatch, Back, Leave, Serve, Served}
+use Rattle.door.specs.declared.marks.Mark.TheVariants.{Turn, Build, Enter, Ask, Dispatch, Back, Leave}
 use Rattle.dom_semantics.specs.declared.selectors.Compound.{Compound}
 use Rattle.dom_semantics.specs.Bounds.{is_short}
 use Rattle.dom_semantics.specs.Forest.{the_host}
@@ -34,9 +32,9 @@ use Rattle.small_forms.specs.declared.page.Page.{Page as OnePage}
 use Rattle.small_forms.specs.declared.page.PageScript.{PageScript}
 use Rattle.small_forms.specs.declared.userscript.Userscript.{Userscript}
 use Rattle.small_forms.specs.Pages.{IsPage, script_texts}
-use Rattle.small_meaning.specs.Shows.{FitsEntry, IsText, entries_in}
-use Rattle.small_meaning.proofs.Shown.{EntersOnly, entered, entries_few, shown_fit, tasks_length, turns_enter}
-use Rattle.solo_model.specs.Acts.{ActsAreSolo, setups_of}
+use Rattle.small_meaning.specs.Shows.{FitsEntry, IsText}
+use Rattle.small_meaning.proofs.Shown.{EntersOnly, entries_few, shown_fit, tasks_length, turns_enter}
+use Rattle.solo_model.specs.Acts.{setups_of}
 use Rattle.solo_model.specs.ActorView.{view_of}
 use Rattle.solo_model.specs.Closed as old
 use Rattle.solo_model.specs.Given.{Given, clocks_from, origin_of, setting_of}
@@ -47,7 +45,6 @@ use Rattle.solo_model.specs.NextMark.{IsLawful, MayEnd, Nothing, next_of}
 use Rattle.solo_model.specs.Right.{IsRight}
 use Rattle.solo_model.specs.Solo.{Deed, IsSoloFrom, Show}
 use Rattle.solo_model.specs.Solo as old_deeds
-use Rattle.solo_model.specs.Tasks.{first_tasks}
 use Rattle.solo_model.specs.Things.{the_page, userscript}
 use Rattle.solo_model.specs.Truth as truth
 use Rattle.solo_model.specs.View as old_view
@@ -58,7 +55,7 @@ use Rattle.solo_model.proofs.Steps.{is_self}
 use Rattle.small_runs.proofs.Acting.{AllOf, AllOwnTame, By, EntersWith, Ordered, all_orderly, own_tame, turns_arranged}
 use Rattle.small_runs.proofs.Asks.{FitsAsk}
 use Rattle.small_runs.proofs.Closing.{old_whole, whole_acts}
-use Rattle.small_runs.proofs.Courses.{no_clocks, quiet}
+use Rattle.small_runs.proofs.Courses.{no_clocks}
 use Rattle.small_runs.proofs.Entering.{AllFit}
 use Rattle.small_runs.proofs.Givens.{given_in_order}
 use Rattle.small_runs.proofs.Going.{nothing_next, setting}

@@ -1,6 +1,5 @@
 -- A small run that was cut off and was right so far is so by the whole definitions.
-use Rattle.std.proofs.Common.{◌≡◌, ◌≢◌, ◌⊎◌, ◌∙◌, inl, inr, ap, sym, refl, subst, ℕ, ◌+◌, ◌≤◌, Bool, true, false, List, [], ◌∷◌, ◌++◌, append_assoc, append-nil, arith, drop, length, take, Option, Some, None}
-use Prim.Native.Nat.{zero, suc}
+use Rattle.std.proofs.Common.{◌≡◌, ◌⊎◌, ◌∙◌, inl, inr, ap, sym, refl, subst, ℕ, ◌≤◌, List, [], ◌∷◌, ◌++◌, append_assoc, append-nil, arith, drop, length, take, Option, Some, None}
 use Rattle.std.specs.List.{list_any}
 use Rattle.std.proofs.lemmas.List.{length-append}
 use Rattle.door.specs.declared.values.Actor.{Actor}
@@ -11,7 +10,6 @@ use Rattle.door.specs.declared.marks.Entry.TheVariants.{Script}
 use Rattle.door.specs.declared.marks.Mark.{Mark}
 use Rattle.door.specs.declared.marks.Mark.TheVariants.{Turn, Build, Enter, Ask, Dispatch, Back, Leave, Serve, Served}
 use Rattle.dom_semantics.specs.declared.selectors.Compound.{Compound}
-use Rattle.dom_semantics.specs.Forest.{the_host}
 use Rattle.dom_semantics.specs.Stage.{Setting}
 use Rattle.js_semantics.specs.Intrinsics.{Setup}
 use Rattle.small_eval.specs.Pieces.{pieces_of}
@@ -28,7 +26,6 @@ use Rattle.solo_model.specs.Given.{Given, setting_of}
 use Rattle.solo_model.specs.Lawful as old_lawful
 use Rattle.solo_model.specs.Lawful.{AreTurns, AreTurnsSoFar, Input, tasks_of}
 use Rattle.solo_model.specs.Right.{IsRightSoFar}
-use Rattle.solo_model.specs.Solo.{Deed}
 use Rattle.solo_model.specs.Truth as truth
 use Rattle.solo_model.specs.View as old_view
 use Rattle.solo_model.proofs.Journals.{turn-alone}
