@@ -112,7 +112,7 @@ entry_arranged : (input : Input) (i : Actor) (text : List ℕ) (marks : List Mar
 entry_arranged input i text marks by enters h =
     let P : List Mark → Type 0 = λ ms. Arranged input None ms None in
     let rest : Arranged input (Some i) (h.asks ++ Leave i h.outcome h.units ∷ []) None =
-        arranged_then input (Some i) (Some i) None h.asks (Leave i h.outcome h.units ∷ []) (asks_arranged input i h.asks by h.own) (record { order = (refl, refl); actors = (by, tt) }) in
+    arranged_then input (Some i) (Some i) None h.asks (Leave i h.outcome h.units ∷ []) (asks_arranged input i h.asks by h.own) (record { order = (refl, refl); actors = (by, tt) }) in
     subst P (sym h.whole) (record { order = rest.order; actors = (enters, rest.actors) })
 
 scripted_arranged : (input : Input) (n : ℕ) (piece : Piece) (script : Option (List ℕ)) (marks : List Mark) → slice_get input.pieces n ≡ Some piece → piece.script ≡ script → IsScripted script marks

@@ -101,10 +101,10 @@ writes_more given before n task kinds front rest (write ∷ ws) marks k builds w
     let request : Request = request_of write in
     let placed : Request = placed_write f write in
     let told : old_lawful.placed_request (old.stage_of marks).nodes request ≡ placed =
-        ap (λ g. old_lawful.placed_request g request) (sym w.sound.same.nodes) ∙ old_placed kinds f write are.0 ∙ write_placed kinds f write are.0 in
+    ap (λ g. old_lawful.placed_request g request) (sym w.sound.same.nodes) ∙ old_placed kinds f write are.0 ∙ write_placed kinds f write are.0 in
     let step : Step = Places request in
     let got : slice_get (steps_of given (stage_of (setting given) before) task) k ≡ Some step =
-        ap (λ ss. slice_get ss k) steps ∙ ap (slice_get (front ++ step ∷ (write_steps ws ++ rest))) (sym long) ∙ got_behind front step (write_steps ws ++ rest) in
+    ap (λ ss. slice_get ss k) steps ∙ ap (slice_get (front ++ step ∷ (write_steps ws ++ rest))) (sym long) ∙ got_behind front step (write_steps ws ++ rest) in
     let free : create_refusal f the_host ≡ None = free_host kinds f w.sound.same.own (omega (arith, few)) in
     let next : Written given before n task (kinds_after kinds write) (marks ++ Build placed ∷ []) (k + 1) = record {
       sound = sound_write given kinds marks write w.sound begins free are.0;

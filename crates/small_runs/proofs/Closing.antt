@@ -53,7 +53,7 @@ whole_acts setups i marks apart plain solo =
     let Done : List Deed → Type 0 = λ deeds. IsSoloFrom enters (beginning (setups i)) (shows_of (view_of i marks)) deeds in
     let none = none_reached setups i (met_of i marks) marks apart plain in
     let bare : deeds_of (view_of i marks) ++ reach_in setups i (met_of i marks) marks ≡ deeds_of (view_of i marks) =
-        ap (λ reach. deeds_of (view_of i marks) ++ reach) none ∙ append-nil (deeds_of (view_of i marks)) in
+    ap (λ reach. deeds_of (view_of i marks) ++ reach) none ∙ append-nil (deeds_of (view_of i marks)) in
     subst Shown (sym whole) (subst Done (sym bare) solo)
 
 -- ---- the same of what was said before
@@ -88,11 +88,11 @@ pub old_whole : (setups : Setups) (i : Actor) (marks : List Mark) (due : List De
 old_whole setups i marks due apart plain solo =
     let whole = old_closed setups i marks apart plain in
     let Shown : List Mark → Type 0 = λ front. IsSoloFrom enters (beginning (setups i)) (old_deeds.shows_of (old_view.view_of i front))
-        ((old_deeds.deeds_of (old_view.view_of i front) ++ old.reach_in setups i (old_view.met_of i front) marks) ++ due) in
+    ((old_deeds.deeds_of (old_view.view_of i front) ++ old.reach_in setups i (old_view.met_of i front) marks) ++ due) in
     let Done : List Deed → Type 0 = λ deeds. IsSoloFrom enters (beginning (setups i)) (old_deeds.shows_of (old_view.view_of i marks)) (deeds ++ due) in
     let none = old_none_reached setups i (old_view.met_of i marks) marks apart plain in
     let bare : old_deeds.deeds_of (old_view.view_of i marks) ++ old.reach_in setups i (old_view.met_of i marks) marks ≡ old_deeds.deeds_of (old_view.view_of i marks) =
-        ap (λ reach. old_deeds.deeds_of (old_view.view_of i marks) ++ reach) none ∙ append-nil (old_deeds.deeds_of (old_view.view_of i marks)) in
+    ap (λ reach. old_deeds.deeds_of (old_view.view_of i marks) ++ reach) none ∙ append-nil (old_deeds.deeds_of (old_view.view_of i marks)) in
     subst Done bare (subst Shown whole solo)
 
 -- the same where these deeds are due
@@ -101,9 +101,9 @@ pub whole_acts_due : (setups : Setups) (i : Actor) (marks : List Mark) (due : Li
 whole_acts_due setups i marks due apart plain solo =
     let whole = all_closed setups i marks apart plain in
     let Shown : List Mark → Type 0 = λ front. IsSoloFrom enters (beginning (setups i)) (shows_of (view_of i front))
-        ((deeds_of (view_of i front) ++ reach_in setups i (met_of i front) marks) ++ due) in
+    ((deeds_of (view_of i front) ++ reach_in setups i (met_of i front) marks) ++ due) in
     let Done : List Deed → Type 0 = λ deeds. IsSoloFrom enters (beginning (setups i)) (shows_of (view_of i marks)) (deeds ++ due) in
     let none = none_reached setups i (met_of i marks) marks apart plain in
     let bare : deeds_of (view_of i marks) ++ reach_in setups i (met_of i marks) marks ≡ deeds_of (view_of i marks) =
-        ap (λ reach. deeds_of (view_of i marks) ++ reach) none ∙ append-nil (deeds_of (view_of i marks)) in
+    ap (λ reach. deeds_of (view_of i marks) ++ reach) none ∙ append-nil (deeds_of (view_of i marks)) in
     subst Shown (sym whole) (subst Done (sym bare) solo)

@@ -108,10 +108,11 @@ runs_asked setup request answer seen later k (Asks asked next) tree due (then, e
     let Q : List Deed → Type 0 = λ deeds. IsSoloFrom enters (Runs (then answer)) (shows_of seen) deeds in
     let rest : Q (deeds_of seen ++ due) = subst Q (sym (same_rest (Requests request) (Requests asked) (deeds_of seen ++ due) step.0 step.1)) step.2 in
     let R : Request → Type 0 = λ r. IsTame setup.zone r in
-    let S : Request → Type 0 = λ r. IsReply r answer in
-    (subst R (sym same) tame.0,
-    later k (next answer) (then answer) due (h answer knows.fit.0) (tame.1 answer (subst S same knows.told.0))
-    (record { few = knows.few; fit = knows.fit.1; orderly = knows.orderly; told = knows.told.1 }) rest)
+    let S : Request → Type 0 = λ r. IsReply r answer in (
+      subst R (sym same) tame.0,
+      later k (next answer) (then answer) due (h answer knows.fit.0) (tame.1 answer (subst S same knows.told.0))
+          (record { few = knows.few; fit = knows.fit.1; orderly = knows.orderly; told = knows.told.1 }) rest,
+    )
 runs_asked setup request answer seen later k (Emits act levels bare back) tree due (left, r, e, same, over) tame knows solo =
     let P : Program Machine → Type 0 = λ t. IsSoloFrom enters (Runs t) (shows_of (Asked request answer ∷ seen)) (deeds_of (Asked request answer ∷ seen) ++ due) in
     absurd (subst P e solo)
@@ -133,9 +134,10 @@ runs_said setup act (Entered (Script text) ∷ seen) later k (Emits other levels
     let P : Program Machine → Type 0 = λ t. IsSoloFrom enters (Runs t) (shows_of (Entered (Script text) ∷ seen)) (Says act ∷ (deeds_of seen ++ due)) in
     let step = subst P e solo in
     let Q : List Deed → Type 0 = λ deeds. IsSoloFrom enters (Awaits LEVELS left waits) (shows_of (Entered (Script text) ∷ seen)) deeds in
-    let rest : Q (deeds_of seen ++ due) = subst Q (sym (same_rest (Says act) (Says other) (deeds_of seen ++ due) step.0 step.1)) step.2 in
-    (subst IsEnd (sym (same_act act other (deeds_of seen ++ due) step.0 step.1)) tame,
-    later k left due r (record { few = knows.few; fit = knows.fit; orderly = knows.orderly; told = knows.told }) rest)
+    let rest : Q (deeds_of seen ++ due) = subst Q (sym (same_rest (Says act) (Says other) (deeds_of seen ++ due) step.0 step.1)) step.2 in (
+      subst IsEnd (sym (same_act act other (deeds_of seen ++ due) step.0 step.1)) tame,
+      later k left due r (record { few = knows.few; fit = knows.fit; orderly = knows.orderly; told = knows.told }) rest,
+    )
 runs_said setup act seen later k Stuck tree due alike tame knows solo = absurd tame
 runs_said setup act (x ∷ seen) later k small tree due alike tame knows solo = absurd knows.orderly
 

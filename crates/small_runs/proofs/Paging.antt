@@ -160,10 +160,14 @@ paged_from kinds ws n (text ∷ texts) are long body short few =
     let many : length own_ws ≡ length ws + length (script_ws n text) = length-append ws (script_ws n text) in
     let P : List Kind → Type 0 = λ ks. Paged ks (pieces_from (after_script n text) [] texts) in
     let more : List Kind = kinds_after_all (kinds_after_all kinds ws) (script_ws n text) in
-    let few_kinds : length more ≤ length kinds + length ws + 4 = omega (arith, few_after_all (kinds_after_all kinds ws) (script_ws n text), few_after_all kinds ws, script_few n text) in
-    (own_ws, told, all, omega (arith, few, many, script_few n text),
-    subst P (sym (after_append kinds ws (script_ws n text)))
-    (paged_from more [] (after_script n text) texts tt (script_many (kinds_after_all kinds ws) n text long) (script_body (kinds_after_all kinds ws) n text body) short.1 (omega (arith, few, few_kinds))))
+    let few_kinds : length more ≤ length kinds + length ws + 4 = omega (arith, few_after_all (kinds_after_all kinds ws) (script_ws n text), few_after_all kinds ws, script_few n text) in (
+      own_ws,
+      told,
+      all,
+      omega (arith, few, many, script_few n text),
+      subst P (sym (after_append kinds ws (script_ws n text)))
+          (paged_from more [] (after_script n text) texts tt (script_many (kinds_after_all kinds ws) n text long) (script_body (kinds_after_all kinds ws) n text body) short.1 (omega (arith, few, few_kinds))),
+    )
 
 -- ---- a page
 

@@ -182,7 +182,7 @@ scripted_partly given before n task kinds ws None marks (x ∷ xs) rest w steps 
 scripted_partly given before n task kinds ws (Some text) marks xs rest w steps is fits said =
     let here : length (write_steps ws) ≡ 0 + length ws = omega (arith, steps_long ws) in
     let got : slice_get (steps_of given (stage_of (setting given) before) task) (0 + length ws) ≡ Some (Enters PAGE (Script text)) =
-        ap (λ ss. slice_get ss (0 + length ws)) steps ∙ ap (slice_get (write_steps ws ++ Enters PAGE (Script text) ∷ [])) (sym here) ∙ got_behind (write_steps ws) (Enters PAGE (Script text)) [] in
+    ap (λ ss. slice_get ss (0 + length ws)) steps ∙ ap (slice_get (write_steps ws ++ Enters PAGE (Script text) ∷ [])) (sym here) ∙ got_behind (write_steps ws) (Enters PAGE (Script text)) [] in
     entry_partly given before n task kinds marks (0 + length ws) the_page text xs rest is refl w got fits said
 
 pub piece_partly : (given : Given) (input : Input) (kinds : List Kind) (marks : List Mark) (n m : ℕ) (piece : Piece) (ws : List Write) (xs rest : List Mark) → Of given input

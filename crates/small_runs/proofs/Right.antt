@@ -311,7 +311,7 @@ whole_journal address bytes page scripts read marks laws small is lawful said =
     let input : Input = input_of (pieces_of page) scripts in
     let few = few_tasks bytes page scripts is small.few in
     let entries : (zone : Zone) → EntersOnly (λ text. FitsEntry zone (Script text)) 1000 marks = λ zone.
-        enters_most _ _ 1000 marks few (turns_enter (λ text. FitsEntry zone (Script text)) input [] (tasks_of input) marks (all_fit laws.small zone bytes page scripts is small.forms) lawful) in
+    enters_most _ _ 1000 marks few (turns_enter (λ text. FitsEntry zone (Script text)) input [] (tasks_of input) marks (all_fit laws.small zone bytes page scripts is small.forms) lawful) in
     let arranged = turns_arranged input [] (tasks_of input) marks lawful in
     record {
       is_page = is;

@@ -122,7 +122,7 @@ pieces_played given input kinds front (piece ∷ pieces) m tail all of begins (w
     let found : d.is.0 ≡ piece = same_some d.is.0 piece (sym d.is.1 ∙ known) in
     let P : Piece → Type 0 = λ p. old_lawful.IsPieceTurn (d.marks ++ Turn (PieceTask m) ∷ []) p d.turn in
     let stopped : Stopped given (kinds_after_all kinds ws) (d.marks ++ Turn (PieceTask m) ∷ d.turn) (d.n + 1) =
-        piece_turn given input kinds d.marks d.n m piece ws d.turn of d.stopped d.got known writes are begins few (subst P found d.is.2) d.fits_turn d.said_turn in
+    piece_turn given input kinds d.marks d.n m piece ws d.turn of d.stopped d.got known writes are begins few (subst P found d.is.2) d.fits_turn d.said_turn in
     pieces_played given input (kinds_after_all kinds ws) (front ++ piece ∷ []) pieces (m + 1) tail all of (begins_all kinds ws begins) paged
     (e ∙ sym (append_assoc front (piece ∷ []) pieces)) (length-append front (piece ∷ []) ∙ ap (λ k. k + 1) long)
     (next given input kinds (kinds_after_all kinds ws) (PieceTask m) (numbered PieceTask (m + 1) pieces ++ tail) all d stopped)
@@ -133,7 +133,7 @@ starts_played given input kinds front [] m tail all of e long l = l
 starts_played given input kinds front (text ∷ starts) m tail all of e long l =
     let d : Due given input kinds (Start m) (numbered Start (m + 1) starts ++ tail) all = due given input kinds (Start m) (numbered Start (m + 1) starts ++ tail) all l in
     let stopped : Stopped given kinds (d.marks ++ Turn (Start m) ∷ d.turn) (d.n + 1) =
-        start_turn given input kinds d.marks d.n m d.is.0 d.turn of d.stopped d.got d.is.1 d.is.2 d.fits_turn d.said_turn in
+    start_turn given input kinds d.marks d.n m d.is.0 d.turn of d.stopped d.got d.is.1 d.is.2 d.fits_turn d.said_turn in
     starts_played given input kinds (front ++ text ∷ []) starts (m + 1) tail all of (e ∙ sym (append_assoc front (text ∷ []) starts)) (length-append front (text ∷ []) ∙ ap (λ k. k + 1) long)
     (next given input kinds kinds (Start m) (numbered Start (m + 1) starts ++ tail) all d stopped)
 
@@ -176,7 +176,7 @@ played given input marks of tasks paged fits lawful said =
     let kinds : List Kind = pieces.0 in
     let ready : Due given input kinds Ready starts marks = due given input kinds Ready starts marks pieces.1 in
     let begun : Left given input kinds starts marks =
-        next given input kinds kinds Ready starts marks ready (ready_turn given input kinds ready.marks ready.n ready.turn of ready.stopped ready.got ready.is) in
+    next given input kinds kinds Ready starts marks ready (ready_turn given input kinds ready.marks ready.n ready.turn of ready.stopped ready.got ready.is) in
     let started : Left given input kinds (Load ∷ []) marks = starts_played given input kinds [] input.starts 0 (Load ∷ []) marks of refl refl begun in
     let load : Due given input kinds Load [] marks = due given input kinds Load [] marks started in
     at_end given input kinds marks (next given input kinds kinds Load [] marks load (load_turn given input kinds load.marks load.n load.turn of load.stopped load.got load.is))

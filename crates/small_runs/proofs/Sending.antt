@@ -120,9 +120,9 @@ true_three given kinds marks kind bubbles target s is =
     let number : ℕ = length stage.events in
     let may : Course → Type 0 = λ c. MayDispatch c.stage the_host number target in
     let first : IsTrueMark (setups_of given) (setting given) marks (made_mark kind bubbles) =
-        (came (reply_to (origin_of given) stage the_host (event_request kind bubbles)) (event_made stage (host_form kind bubbles)) (makes_event (origin_of given) stage kind bubbles is.short), refl) in
+    (came (reply_to (origin_of given) stage the_host (event_request kind bubbles)) (event_made stage (host_form kind bubbles)) (makes_event (origin_of given) stage kind bubbles is.short), refl) in
     let second : IsTrueMark (setups_of given) (setting given) (one_more marks kind bubbles) (sent_mark number target) =
-        (subst may (sym (course_one given marks kind bubbles is.short)) (may_send stage kind bubbles target (root_there stage.nodes s.same.rooted) is.sendable), refl) in
+    (subst may (sym (course_one given marks kind bubbles is.short)) (may_send stage kind bubbles target (root_there stage.nodes s.same.rooted) is.sendable), refl) in
     let third : IsTrueMark (setups_of given) (setting given) (two_more marks kind bubbles number target) back_mark = (tt, refl) in
     genuine-more (setups_of given) (setting given) [] (two_more marks kind bubbles number target) back_mark
     (genuine-more (setups_of given) (setting given) [] (one_more marks kind bubbles) (sent_mark number target)
@@ -162,10 +162,10 @@ event_turn given before n task kinds marks kind bubbles target t s is steps =
     let got : (k : ℕ) → slice_get (steps_of given (stage_of (setting given) before) task) k ≡ slice_get (Builds (event_request kind bubbles) ∷ (Sends number target ∷ [])) k = λ k. ap (λ ss. slice_get ss k) steps in
     let one : InTurn given before n task (one_more marks kind bubbles) 1 [] = build-more given before n task marks 0 (Builds (event_request kind bubbles)) (event_request kind bubbles) t (got 0) refl in
     let two : InTurn given before n task (two_more marks kind bubbles number target) 2 (Walking the_host number ∷ []) =
-        dispatch-more given before n task (one_more marks kind bubbles) 1 (Sends number target) the_host number target one (got 1) refl in
+    dispatch-more given before n task (one_more marks kind bubbles) 1 (Sends number target) the_host number target one (got 1) refl in
     let P : Course → Type 0 = λ c. walk_next c.stage the_host number (first_step c.stage c.walks) ≡ Exactly back_mark in
     let over : P (course_of (setting given) (two_more marks kind bubbles number target)) =
-        subst P (sym (course_two given marks kind bubbles target is.short)) (walk_over (stage_of (setting given) marks) kind bubbles target (course_of (setting given) marks).walks s.same.silent) in
+    subst P (sym (course_two given marks kind bubbles target is.short)) (walk_over (stage_of (setting given) marks) kind bubbles target (course_of (setting given) marks).walks s.same.silent) in
     let three : InTurn given before n task (three_more marks kind bubbles number target) 2 [] =
-        back-more given before n task (two_more marks kind bubbles number target) 2 the_host number (ValueAnswer (BoolValue true)) two over in
+    back-more given before n task (two_more marks kind bubbles number target) 2 the_host number (ValueAnswer (BoolValue true)) two over in
     turn_over given before n task (three_more marks kind bubbles number target) 2 three (got 2)

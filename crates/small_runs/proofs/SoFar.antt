@@ -116,8 +116,8 @@ journal_so_far address bytes page scripts read marks laws small is lawful said =
     let b : Begins input [] (tasks_of input) marks = begins input [] (tasks_of input) marks lawful in
     let few : length b.front ≤ 1000 = omega (arith, few_tasks bytes page scripts is small.few, ap length b.split, length-append b.front b.tail) in
     let entries : (zone : Zone) → EntersOnly (λ text. FitsEntry zone (Script text)) 1000 marks = λ zone.
-        enters_front (λ text. FitsEntry zone (Script text)) (length b.front) 1000 marks b.rest few
-        (turns_enter (λ text. FitsEntry zone (Script text)) input [] b.front (marks ++ b.rest) (all_fit laws.small zone bytes page scripts is small.forms) b.turns) in
+    enters_front (λ text. FitsEntry zone (Script text)) (length b.front) 1000 marks b.rest few
+    (turns_enter (λ text. FitsEntry zone (Script text)) input [] b.front (marks ++ b.rest) (all_fit laws.small zone bytes page scripts is small.forms) b.turns) in
     let arranged = turns_arranged input [] b.front (marks ++ b.rest) b.turns in
     let order = order_front None None marks b.rest arranged.order in
     record {
@@ -167,7 +167,7 @@ acts_so_far address bytes page scripts read marks jo solo i one = by (acts_or_re
     by (inl actor) =
         let P : Setup → Type 0 = λ s. SoloWhole s i marks so_far.due in
         let whole : SoloWhole (setups_of given i) i marks so_far.due =
-            subst P (same_setup address (pieces_of page) scripts read i actor) (whole_of (small_setups address i) i marks so_far.due jo.plain (view_so_far address marks i so_far jo.plain)) in
+        subst P (same_setup address (pieces_of page) scripts read i actor) (whole_of (small_setups address i) i marks so_far.due jo.plain (view_so_far address marks i so_far jo.plain)) in
         record {
           due = so_far.due;
           one = so_far.one;
@@ -194,7 +194,7 @@ cut_right address bytes page scripts read marks laws small is lawful said solo =
     let jo = journal_so_far address bytes page scripts read marks laws small is lawful said in
     let fits : AllFit given marks = journal_fits address bytes page scripts read marks jo (λ i other. ((solo i other).due, view_so_far address marks i (solo i other) jo.plain)) in
     let partly : Partly given marks =
-        played_so_far given input marks (small_of address (pieces_of page) scripts read (few_pieces bytes page is) small.few) (tasks_same address (pieces_of page) scripts read) (page_paged bytes page is) fits lawful said in
+    played_so_far given input marks (small_of address (pieces_of page) scripts read (few_pieces bytes page is) small.few) (tasks_same address (pieces_of page) scripts read) (page_paged bytes page is) fits lawful said in
     let same : setting_of given marks ≡ setting given = same_setting given marks refl (no_clocks 0 marks partly.no_lines) in
     let Allowed : Setting → Type 0 = λ s. Rattle.solo_model.specs.NextMark.AreAllowed given s [] marks in
     let True : Setting → Type 0 = λ s. IsGenuine (setups_of given) s marks in

@@ -118,7 +118,7 @@ pub sound_write : (given : Given) (kinds : List Kind) (marks : List Mark) (w : W
 sound_write given kinds marks w s begins free is =
     let stage : Stage = stage_of (setting given) marks in
     let build : IsTrueBuild (origin_of given) stage (placed_write stage.nodes w) =
-        true_build (origin_of given) stage (placed_write stage.nodes w) (nodes_after stage.nodes w) (write_makes kinds (origin_of given) stage w s.same.own begins free is) in
+    true_build (origin_of given) stage (placed_write stage.nodes w) (nodes_after stage.nodes w) (write_makes kinds (origin_of given) stage w s.same.own begins free is) in
     sound-more given kinds (kinds_after kinds w) marks (Build (placed_write stage.nodes w)) s tt (build, write_owners stage.nodes w)
     (same_written kinds (origin_of given) (old.stage_of marks) (course_of (setting given) marks) w s.same begins free is)
 
@@ -161,7 +161,7 @@ sound_ask given kinds marks i member thing arguments answer s other fits e none 
     let g : Forest = nodes_asked f i member arguments in
     let before : old.Stage = old.stage_of marks in
     let told : Answers c.stage (reply_of (origin_of given) c.stage i member thing arguments) answer g i =
-        ask_answered (origin_of given) c.stage before i member thing arguments answer s.same.nodes (root_there f s.same.rooted) fits e in
+    ask_answered (origin_of given) c.stage before i member thing arguments answer s.same.nodes (root_there f s.same.rooted) fits e in
     let P : Stage → Type 0 = λ t. Same kinds (old.asked i before (Native member thing arguments) answer) (record { stage = t; walks = c.walks }) in
     let Q : old.Stage → Type 0 = λ t. Same kinds t (record { stage = Rattle.dom_semantics.specs.Stage.with_nodes c.stage g; walks = c.walks }) in
     sound-more given kinds kinds marks (Ask i (Native member thing arguments) answer) s tt (ask_true given marks i member thing arguments answer fits told.answered none)

@@ -77,16 +77,16 @@ scripted given before n task kinds ws None marks entry w steps is fits said =
     let P : List Mark → Type 0 = λ ms. Stopped given kinds ms (n + 1) in
     let at : length (write_steps ws ++ []) ≡ 0 + length ws = length-append (write_steps ws) [] ∙ omega (arith, steps_long ws) in
     let over : slice_get (steps_of given (stage_of (setting given) before) task) (0 + length ws) ≡ None =
-        ap (λ ss. slice_get ss (0 + length ws)) steps ∙ ap (slice_get (write_steps ws ++ [])) (sym at) ∙ got_past (write_steps ws ++ []) in
+    ap (λ ss. slice_get ss (0 + length ws)) steps ∙ ap (slice_get (write_steps ws ++ [])) (sym at) ∙ got_past (write_steps ws ++ []) in
     subst P (sym (ap (λ ms. marks ++ ms) is ∙ append-nil marks)) (record { sound = w.sound; between = turn_over given before n task marks (0 + length ws) w.turn over })
 scripted given before n task kinds ws (Some text) marks entry w steps is fits said =
     let all : List Step = write_steps ws ++ Enters PAGE (Script text) ∷ [] in
     let here : length (write_steps ws) ≡ 0 + length ws = omega (arith, steps_long ws) in
     let at : length all ≡ (0 + length ws) + 1 = length-append (write_steps ws) (Enters PAGE (Script text) ∷ []) ∙ omega (arith, steps_long ws) in
     let got : slice_get (steps_of given (stage_of (setting given) before) task) (0 + length ws) ≡ Some (Enters PAGE (Script text)) =
-        ap (λ ss. slice_get ss (0 + length ws)) steps ∙ ap (slice_get all) (sym here) ∙ got_behind (write_steps ws) (Enters PAGE (Script text)) [] in
+    ap (λ ss. slice_get ss (0 + length ws)) steps ∙ ap (slice_get all) (sym here) ∙ got_behind (write_steps ws) (Enters PAGE (Script text)) [] in
     let over : slice_get (steps_of given (stage_of (setting given) before) task) ((0 + length ws) + 1) ≡ None =
-        ap (λ ss. slice_get ss ((0 + length ws) + 1)) steps ∙ ap (slice_get all) (sym at) ∙ got_past all in
+    ap (λ ss. slice_get ss ((0 + length ws) + 1)) steps ∙ ap (slice_get all) (sym at) ∙ got_past all in
     let parts = entry_fits given the_page text entry is fits in
     let turn : InTurn given before n task (marks ++ entry) ((0 + length ws) + 1) [] = entry_more given before n task marks (0 + length ws) the_page text entry is parts.1 w.turn got in
     record {
@@ -105,15 +105,15 @@ piece_turn given input kinds marks n m piece ws turn of s got known writes are b
     let w : Written given marks n task kinds after 0 = begun given input kinds marks n task of s got tt tt in
     let found : slice_get given.pieces m ≡ Some (piece_given piece) = ap (λ ps. slice_get ps m) of.pieces ∙ got_map piece_given input.pieces m piece known in
     let steps : steps_of given (stage_of (setting given) marks) task ≡ write_steps ws ++ script_steps piece.script =
-        ap piece_steps found ∙ ap (λ rs. map (λ request. Rattle.solo_model.specs.Turns.Places request) rs ++ script_steps piece.script) writes in
+    ap piece_steps found ∙ ap (λ rs. map (λ request. Rattle.solo_model.specs.Turns.Places request) rs ++ script_steps piece.script) writes in
     let P : List Request → Type 0 = λ rs. AreBuilds after rs is.builds in
     let built : Written given marks n task (kinds_after_all kinds ws) (after ++ is.builds) (0 + length ws) =
-        writes_more given marks n task kinds [] (script_steps piece.script) ws after 0 is.builds w steps refl are begins few (subst P writes is.built) in
+    writes_more given marks n task kinds [] (script_steps piece.script) ws after 0 is.builds w steps refl are begins few (subst P writes is.built) in
     let fit = fit_split given is.builds is.entry (subst (AllFit given) is.whole fits) in
     let Q : List Mark → Type 0 = λ ms. IsGenuineAfter after ms in
     let true_parts = genuine_split after is.builds is.entry (subst Q is.whole said) in
     let done : Stopped given (kinds_after_all kinds ws) ((after ++ is.builds) ++ is.entry) (n + 1) =
-        scripted given marks n task (kinds_after_all kinds ws) ws piece.script (after ++ is.builds) is.entry built steps is.scripted fit.1 true_parts.1 in
+    scripted given marks n task (kinds_after_all kinds ws) ws piece.script (after ++ is.builds) is.entry built steps is.scripted fit.1 true_parts.1 in
     let R : List Mark → Type 0 = λ ms. Stopped given (kinds_after_all kinds ws) ms (n + 1) in
     stopped_at given (kinds_after_all kinds ws) marks turn n task (subst R (append_assoc after is.builds is.entry ∙ ap (λ ms. after ++ ms) (sym is.whole)) done)
 
@@ -136,7 +136,7 @@ start_turn given input kinds marks n m text turn of s got known is fits said =
     let steps : steps_of given (stage_of (setting given) marks) task ≡ Enters (userscript m) (Script text) ∷ [] = ap (start_steps m) (of.starts m text known) in
     let parts = entry_fits given (userscript m) text turn is fits in
     let played : InTurn given marks n task (after ++ turn) 1 [] =
-        entry_more given marks n task after 0 (userscript m) text turn is parts.1 w.turn (ap (λ ss. slice_get ss 0) steps) in
+    entry_more given marks n task after 0 (userscript m) text turn is parts.1 w.turn (ap (λ ss. slice_get ss 0) steps) in
     stopped_at given kinds marks turn n task (record {
       sound = sound_entry given kinds after (userscript m) text turn is (no_host m) fits said w.sound;
       between = turn_over given marks n task (after ++ turn) 1 played (ap (λ ss. slice_get ss 1) steps);

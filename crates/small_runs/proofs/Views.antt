@@ -161,7 +161,7 @@ views_alike i p q (Ask j (Native member thing arguments) answer ∷ marks) h e =
     let after : Met = meets_answer i q answer in
     let told : SameMet (old.meets_answer i p answer) after = answer_meets i p q answer h.0.1 e in
     let P : List Seen → Type 0 = λ ss. Alike (old.view_from i p (Ask j (Native member thing arguments) answer ∷ marks))
-        ((if is_actor j i then ss else []) ++ view_from i (if is_actor j i then after else q) marks) in
+    ((if is_actor j i then ss else []) ++ view_from i (if is_actor j i then after else q) marks) in
     subst P (sym (seen_ask i q after member thing arguments answer h.0.0))
     (asked_alike (is_actor j i) _ _ _ _ _ _ (request_named i p q member thing arguments h.0.0 e) (answer_named i _ after answer h.0.1 told)
     (views_alike i (if is_actor j i then old.meets_answer i p answer else p) (if is_actor j i then after else q) marks h.1 (either_met (is_actor j i) (old.meets_answer i p answer) p after q told e)))
