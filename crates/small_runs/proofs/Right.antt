@@ -24,6 +24,8 @@ use Rattle.dom_semantics.specs.declared.selectors.Compound.{Compound}
 use Rattle.dom_semantics.specs.Bounds.{is_short}
 use Rattle.dom_semantics.specs.Forest.{the_host}
 use Rattle.dom_semantics.specs.Stage.{Setting}
+use Rattle.dom_semantics.specs.StageOf.{stage_of}
+use Rattle.solo_model.specs.Stage as old_stage
 use Rattle.js_semantics.specs.Entries.{beginning, enters}
 use Rattle.js_semantics.specs.Intrinsics.{Setup}
 use Rattle.js_semantics.specs.Solo.{Leaves}
@@ -374,3 +376,17 @@ whole_right address bytes page scripts read marks laws small is lawful said acts
       genuine = subst True (sym same) ran.sound.genuine;
       acts = λ i one. whole_acts (setups_of given) i marks (given_apart address pieces scripts read) jo.plain (acts_of address bytes page scripts read marks jo (λ j other. solo j other) i one);
     }
+
+-- and the document is the same by both definitions
+pub whole_document : (address bytes : List ℕ) (page : OnePage) (scripts : List Userscript) (read : List ℕ → Option (List (List Compound))) (marks : List Mark) → Laws → IsSmall address scripts read
+    → IsPage bytes page → old_lawful.IsLawful (input_of (pieces_of page) scripts) marks → truth.IsGenuine marks → AllActsAreSolo address marks
+    → (stage_of (setting_of (given_of address (pieces_of page) scripts read) marks) marks).nodes ≡ (old_stage.stage_of marks).nodes
+whole_document address bytes page scripts read marks laws small is lawful said acts =
+    let pieces : List Piece = pieces_of page in
+    let input : Input = input_of pieces scripts in
+    let given : Given = given_of address pieces scripts read in
+    let jo = whole_journal address bytes page scripts read marks laws small is lawful said in
+    let solo = all_solo address marks jo.plain acts in
+    let fits : AllFit given marks = journal_fits address bytes page scripts read marks jo (λ i other. ([], solo i other)) in
+    let ran : Ran given marks = played given input marks (small_of address pieces scripts read (few_pieces bytes page is) small.few) (tasks_same address pieces scripts read) (page_paged bytes page is) fits lawful said in
+    ap (λ (s : Setting). (stage_of s marks).nodes) (same_setting given marks refl (no_clocks 0 marks ran.sound.no_lines)) ∙ ran.sound.same.nodes
