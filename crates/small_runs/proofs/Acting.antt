@@ -1,6 +1,5 @@
 -- Who acts in a small run, and in which order.
-use Rattle.std.proofs.Common.{◌≡◌, ◌⊎◌, ◌∙◌, inl, inr, ap, sym, refl, subst, ℕ, ◌+◌, ◌≤◌, Bool, true, false, List, [], ◌∷◌, ◌++◌, append_assoc, arith, nat_eq, if◌then◌else◌, Option, Some, None, slice_get}
-use Rattle.std.proofs.lemmas.Bool.Decides.{nat_tests}
+use Rattle.std.proofs.Common.{◌≡◌, ◌⊎◌, ◌∙◌, inl, inr, ap, sym, refl, subst, ℕ, Bool, true, false, List, [], ◌∷◌, ◌++◌, if◌then◌else◌, Option, Some, None, slice_get}
 use Rattle.door.specs.declared.values.Actor.{Actor}
 use Rattle.door.specs.declared.values.Thing.{Thing}
 use Rattle.door.specs.declared.values.Value.{Value}
@@ -9,13 +8,13 @@ use Rattle.door.specs.declared.zones.Zone.{Zone}
 use Rattle.door.specs.declared.members.Member.{Member}
 use Rattle.door.specs.declared.members.Member.TheVariants.{WindowDocument, DocumentTitle, DocumentSetTitle, GmLog, ConsoleLog}
 use Rattle.door.specs.declared.requests.Request.{Request}
-use Rattle.door.specs.declared.requests.Request.TheVariants.{Native, Peek, PeekKeys, Reach}
+use Rattle.door.specs.declared.requests.Request.TheVariants.{Native}
 use Rattle.door.specs.declared.requests.Answer.{Answer}
 use Rattle.door.specs.declared.marks.Task.{Task}
 use Rattle.door.specs.declared.marks.Task.TheVariants.{Start, Piece as PieceTask, Ready, Load}
 use Rattle.door.specs.declared.marks.Entry.TheVariants.{Script}
 use Rattle.door.specs.declared.marks.Mark.{Mark}
-use Rattle.door.specs.declared.marks.Mark.TheVariants.{Turn, Build, Enter, Ask, Dispatch, Back, Leave, Serve, Served}
+use Rattle.door.specs.declared.marks.Mark.TheVariants.{Turn, Build, Enter, Ask, Dispatch, Back, Leave}
 use Rattle.dom_semantics.specs.Forest.{the_host}
 use Rattle.js_semantics.specs.Solo.{Act, Leaves}
 use Rattle.solo_model.specs.Lawful.{AreAsksOf, AreBuilds, AreTurns, Input, IsEntry, IsScripted, IsTurn, Piece, event_marks, placed_request}
@@ -27,7 +26,6 @@ use Rattle.small_runs.proofs.Lockstep.{AllTame, Orderly}
 use Rattle.small_runs.proofs.Tame.{IsEnd, IsTame}
 use Rattle.small_runs.proofs.Views.{ArePlain, IsPlainAsk}
 use Rattle.door.specs.declared.requests.Request.{Request}
-use Rattle.small_eval.proofs.Building.{host_unseen}
 
 -- ---- order
 

@@ -1,5 +1,5 @@
 -- What small scripts ask is answered as before, and makes of the nodes what it made of them before.
-use Rattle.std.proofs.Common.{◌≡◌, ◌∙◌, ap, sym, refl, subst, true≢false, ℕ, ◌&&◌, Bool, true, false, List, [], ◌∷◌, nat_eq, nat_lt, if◌then◌else◌, Option, Some, None}
+use Rattle.std.proofs.Common.{◌≡◌, ◌∙◌, ap, sym, refl, subst, ℕ, Bool, true, false, List, [], ◌∷◌, nat_eq, nat_lt, if◌then◌else◌, Option, Some, None}
 use Rattle.std.proofs.Common.{arith}
 use Rattle.std.proofs.lemmas.Bool.Decides.{nat_tests}
 use Rattle.std.specs.Option.{option_map_or}
@@ -16,19 +16,17 @@ use Rattle.door.specs.declared.members.Member.{Member}
 use Rattle.door.specs.declared.members.Member.TheVariants.{WindowDocument, DocumentTitle, DocumentSetTitle, GmLog, ConsoleLog}
 use Rattle.door.specs.declared.requests.ErrorKind.{ErrorKind}
 use Rattle.door.specs.declared.requests.ErrorKind.TheVariants.{TooLong}
-use Rattle.door.specs.declared.requests.Request.{Request}
 use Rattle.door.specs.declared.requests.Request.TheVariants.{Native}
 use Rattle.door.specs.declared.requests.Answer.{Answer}
 use Rattle.door.specs.declared.requests.Answer.TheVariants.{Value as ValueAnswer, Throw}
 use Rattle.dom_semantics.specs.Bounds.{is_short}
-use Rattle.dom_semantics.specs.DocumentReplies.{length_refusal}
 use Rattle.dom_semantics.specs.Fits.{is_script}
 use Rattle.dom_semantics.specs.Forest.{Forest}
 use Rattle.dom_semantics.specs.Grants.{grants_of, is_granted}
 use Rattle.dom_semantics.specs.Reply.{IsAnswered, Reply, does, gives_text, unless}
 use Rattle.dom_semantics.specs.Stage.{Origin, Stage, has_node, with_nodes}
-use Rattle.dom_semantics.specs.StageOf.{asked, is_refusal, next_or}
-use Rattle.dom_semantics.specs.Things.{is_thing, kind_number, the_document, the_window, thing_of}
+use Rattle.dom_semantics.specs.StageOf.{is_refusal, next_or}
+use Rattle.dom_semantics.specs.Things.{is_thing, the_document, the_window, thing_of}
 use Rattle.dom_semantics.specs.Titles.{title_of, title_refusal, titled}
 use Rattle.dom_semantics.specs.Truth.{reply_of}
 use Rattle.solo_model.specs.Stage as old

@@ -1,5 +1,5 @@
 -- A piece of a page is written in a small run.
-use Rattle.std.proofs.Common.{◌≡◌, ◌∙◌, ap, sym, refl, subst, ℕ, ◌+◌, ◌<◌, ◌≤◌, suc, Bool, true, false, List, [], ◌∷◌, ◌++◌, append_assoc, append-nil, arith, length, length-append, map, nat_eq, slice_get, if◌then◌else◌, Option, Some, None}
+use Rattle.std.proofs.Common.{◌≡◌, ◌∙◌, ap, sym, refl, subst, ℕ, ◌+◌, ◌<◌, ◌≤◌, suc, Bool, true, false, List, [], ◌∷◌, ◌++◌, append_assoc, append-nil, arith, length, length-append, map, slice_get, if◌then◌else◌, Some, None}
 use Rattle.door.specs.declared.limits.TheConstants.{NODE_LIMIT}
 use Rattle.door.specs.declared.values.Kind.{Kind}
 use Rattle.door.specs.declared.values.Kind.TheVariants.{Document}
@@ -8,7 +8,7 @@ use Rattle.door.specs.declared.marks.Task.{Task}
 use Rattle.door.specs.declared.marks.Mark.{Mark}
 use Rattle.door.specs.declared.marks.Mark.TheVariants.{Build}
 use Rattle.dom_semantics.specs.Changes.{create_refusal}
-use Rattle.dom_semantics.specs.Forest.{Forest, Node, the_host}
+use Rattle.dom_semantics.specs.Forest.{Forest, the_host}
 use Rattle.dom_semantics.specs.StageOf.{stage_of}
 use Rattle.dom_semantics.specs.Things.{is_actor, kind_of_form}
 use Rattle.small_eval.proofs.Own.{host_makes}
@@ -21,7 +21,7 @@ use Rattle.small_runs.proofs.Going.{InTurn, build-more, setting}
 use Rattle.small_runs.proofs.Made.{own_kinds}
 use Rattle.small_runs.proofs.Same.{Begins, old_placed, placed_write, write_placed}
 use Rattle.small_runs.proofs.Sound.{Sound, sound_write}
-use Rattle.small_runs.proofs.Writes.{AreWrites, IsWrite, Write, Creates, Texts, Identifies, Appends, kinds_after, kinds_after_all, request_of}
+use Rattle.small_runs.proofs.Writes.{AreWrites, Write, Creates, Texts, Identifies, Appends, kinds_after, kinds_after_all, request_of}
 
 -- ---- the host has nodes left
 

@@ -1,13 +1,12 @@
 -- In a small run every actor is closed to the end, by both definitions.
-use Rattle.std.proofs.Common.{◌≡◌, ◌∙◌, ap, sym, refl, subst, not, Bool, true, false, List, [], ◌∷◌, ◌++◌, append-nil}
+use Rattle.std.proofs.Common.{◌≡◌, ◌∙◌, ap, sym, refl, subst, not, false, List, [], ◌∷◌, ◌++◌, append-nil}
 use Rattle.std.proofs.lemmas.List.Sums.{take_while-cons}
 use Rattle.door.specs.declared.values.Actor.{Actor}
 use Rattle.door.specs.declared.requests.Request.TheVariants.{Native, Peek, PeekKeys, Reach}
-use Rattle.door.specs.declared.marks.Entry.TheVariants.{Script}
 use Rattle.door.specs.declared.marks.Mark.{Mark}
 use Rattle.door.specs.declared.marks.Mark.TheVariants.{Turn, Build, Enter, Ask, Dispatch, Back, Leave, Serve, Served}
 use Rattle.js_semantics.specs.Entries.{beginning, enters}
-use Rattle.solo_model.specs.Acts.{ActsAreSolo, Setups, closed_front, reach_in, zones_of}
+use Rattle.solo_model.specs.Acts.{ActsAreSolo, AreSolo, Setups, closed_deeds, closed_front, reach_in, zones_of}
 use Rattle.solo_model.specs.ActorView.{met_of, view_of}
 use Rattle.solo_model.specs.Closed as old
 use Rattle.solo_model.specs.Naming.{Met}
@@ -95,3 +94,16 @@ old_whole setups i marks due apart plain solo =
     let bare : old_deeds.deeds_of (old_view.view_of i marks) ++ old.reach_in setups i (old_view.met_of i marks) marks ≡ old_deeds.deeds_of (old_view.view_of i marks) =
     ap (λ reach. old_deeds.deeds_of (old_view.view_of i marks) ++ reach) none ∙ append-nil (old_deeds.deeds_of (old_view.view_of i marks)) in
     subst Done bare (subst Shown whole solo)
+
+-- the same where these deeds are due
+pub whole_acts_due : (setups : Setups) (i : Actor) (marks : List Mark) (due : List Deed) → AreApart setups → ArePlain marks
+    → IsSoloFrom enters (beginning (setups i)) (shows_of (view_of i marks)) (deeds_of (view_of i marks) ++ due) → AreSolo setups i marks (closed_deeds setups i marks ++ due)
+whole_acts_due setups i marks due apart plain solo =
+    let whole = all_closed setups i marks apart plain in
+    let Shown : List Mark → Type 0 = λ front. IsSoloFrom enters (beginning (setups i)) (shows_of (view_of i front))
+    ((deeds_of (view_of i front) ++ reach_in setups i (met_of i front) marks) ++ due) in
+    let Done : List Deed → Type 0 = λ deeds. IsSoloFrom enters (beginning (setups i)) (shows_of (view_of i marks)) (deeds ++ due) in
+    let none = none_reached setups i (met_of i marks) marks apart plain in
+    let bare : deeds_of (view_of i marks) ++ reach_in setups i (met_of i marks) marks ≡ deeds_of (view_of i marks) =
+    ap (λ reach. deeds_of (view_of i marks) ++ reach) none ∙ append-nil (deeds_of (view_of i marks)) in
+    subst Shown (sym whole) (subst Done (sym bare) solo)

@@ -1,15 +1,14 @@
 -- How stage, walks and progress of a journal go on with a mark more, where no line of a scenario sets the clock.
-use Rattle.std.proofs.Common.{◌≡◌, ◌∙◌, ap, sym, refl, subst, ℕ, ◌+◌, List, [], ◌∷◌, ◌++◌, append_assoc, length, take, arith}
-use Prim.Native.Nat.{zero, suc}
-use Rattle.door.specs.declared.marks.Task.{Task}
+use Rattle.std.proofs.Common.{◌≡◌, ◌∙◌, ap, refl, ℕ, ◌+◌, List, [], ◌∷◌, ◌++◌, length, take, arith}
+use Prim.Native.Nat.{suc}
 use Rattle.door.specs.declared.marks.Task.TheVariants.{Line, Start, Piece, Ready, Load, Timer}
 use Rattle.door.specs.declared.marks.Mark.{Mark}
 use Rattle.door.specs.declared.marks.Mark.TheVariants.{Turn, Build, Enter, Ask, Dispatch, Back, Leave, Serve, Served}
 use Rattle.dom_semantics.specs.Stage.{Origin, Setting, Stage}
-use Rattle.dom_semantics.specs.StageOf.{Course, after, begun, course_from, course_of, stage_of, timed}
-use Rattle.solo_model.specs.Nesting.{Progress, advanced, at_first, progress_from, progress_of}
+use Rattle.dom_semantics.specs.StageOf.{Course, after, begun, course_from, course_of, timed}
+use Rattle.solo_model.specs.Nesting.{advanced, at_first, progress_from, progress_of}
 use Rattle.solo_model.proofs.Growing.{progress_from-append}
-use Rattle.solo_model.specs.Given.{Given, clocks_from, origin_of, setting_of}
+use Rattle.solo_model.specs.Given.{clocks_from}
 
 -- a setting of no clock and an empty store
 abbrev pub quiet : Origin → Setting

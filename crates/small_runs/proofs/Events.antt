@@ -1,14 +1,10 @@
 -- The events that the host sends in a small run: nobody listens, and the dispatch comes back.
-use Rattle.std.proofs.Common.{◌≡◌, ◌∙◌, ap, sym, refl, subst, ℕ, ◌+◌, ◌<◌, ◌&&◌, ◌||◌, Bool, true, false, not, List, [], ◌∷◌, ◌++◌, append_assoc, arith, length, length-append, length-set, nat_lt, slice_get, slice_index_or, slice_set, if◌then◌else◌, Option, Some, None}
+use Rattle.std.proofs.Common.{◌≡◌, ◌∙◌, ap, refl, ℕ, ◌+◌, Bool, true, false, List, [], ◌∷◌, ◌++◌, arith, length, length-append, length-set, nat_lt, if◌then◌else◌, None}
 use Rattle.std.proofs.lemmas.Bool.Decides.{nat_tests}
-use Rattle.door.specs.declared.values.Actor.{Actor}
-use Rattle.door.specs.declared.values.Kind.{Kind}
 use Rattle.door.specs.declared.values.Kind.TheVariants.{Event as EventKind}
 use Rattle.door.specs.declared.values.Thing.{Thing}
-use Rattle.door.specs.declared.values.Value.{Value}
 use Rattle.door.specs.declared.values.Value.TheVariants.{Thing as ThingValue, Str, Bool as BoolValue, Null}
 use Rattle.door.specs.declared.members.Member.TheVariants.{EventTargetDispatchEvent, NewEvent}
-use Rattle.door.specs.declared.requests.Answer.TheVariants.{Value as ValueAnswer}
 use Rattle.door.specs.declared.requests.Request.{Request}
 use Rattle.door.specs.declared.requests.Request.TheVariants.{Native}
 use Rattle.dom_semantics.specs.declared.events.Event.{Event}
@@ -16,14 +12,13 @@ use Rattle.dom_semantics.specs.declared.events.EventForm.{EventForm}
 use Rattle.dom_semantics.specs.declared.listeners.Visit.{Visit}
 use Rattle.dom_semantics.specs.Bounds.{is_short}
 use Rattle.dom_semantics.specs.EventReplies.{event_made, form_of}
-use Rattle.dom_semantics.specs.Events.{Events, event_at, event_begun, event_ended, new_event, no_event, with_event}
+use Rattle.dom_semantics.specs.Events.{Events, event_at, event_begun, new_event, with_event}
 use Rattle.dom_semantics.specs.Fits.{is_request}
 use Rattle.dom_semantics.specs.Forest.{the_host}
 use Rattle.dom_semantics.specs.Stage.{Origin, Stage, has_node, has_thing}
-use Rattle.dom_semantics.specs.StageOf.{Course, after, built, came_back, dispatched, first_step, step_in, walk_of}
-use Rattle.dom_semantics.specs.TargetReplies.{dispatch_refusal}
+use Rattle.dom_semantics.specs.StageOf.{dispatched}
 use Rattle.dom_semantics.specs.Things.{the_document, the_window, thing_of}
-use Rattle.dom_semantics.specs.Truth.{IsTrueBuild, has_all, reply_to}
+use Rattle.dom_semantics.specs.Truth.{reply_to}
 use Rattle.dom_semantics.specs.Walks.{Step, Walk, step_along, step_of}
 use Rattle.solo_model.specs.Genuine.{MayDispatch}
 use Rattle.small_runs.proofs.Writes.{Comes, comes_by, row_replies}

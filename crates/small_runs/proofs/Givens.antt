@@ -1,17 +1,16 @@
 -- What a small run is given is in order.
-use Rattle.std.proofs.Common.{◌≡◌, ◌∙◌, ap, sym, refl, subst, true≢false, ℕ, ◌<◌, ◌≤◌, ◌&&◌, Bool, true, false, not, List, [], ◌∷◌, ◌++◌, All, arith, length, map, nat_le, Option, bytes_eq}
-use Rattle.std.specs.List.{list_all}
+use Rattle.std.proofs.Common.{◌≡◌, ◌∙◌, ap, sym, refl, true≢false, ℕ, ◌<◌, ◌≤◌, true, false, List, [], ◌∷◌, ◌++◌, All, arith, length, map, nat_le, Option, bytes_eq, ◌≢◌, AllPairs, suc, slice_index_or, Bool}
+use Rattle.std.specs.List.{list_all, list_any}
 use Rattle.std.proofs.lemmas.Bool.Decides.{nat_tests}
+use Rattle.std.proofs.lemmas.Slice.Eq.{bytes_eq-Decides}
+use Rattle.dom_semantics.specs.declared.kept.Owner.{Owner}
 use Rattle.std.proofs.lemmas.List.{length-map}
 use Rattle.std.proofs.lemmas.List.Elements.{All-nil, All-cons}
 use Rattle.base_text.specs.Scalars.{utf8_len}
-use Rattle.door.specs.declared.grants.GrantSet.{GrantSet}
 use Rattle.door.specs.declared.limits.TheConstants.{ADDRESS_LIMIT, USERSCRIPT_LIMIT}
-use Rattle.dom_semantics.specs.declared.kept.Owner.{Owner}
 use Rattle.dom_semantics.specs.declared.selectors.Compound.{Compound}
-use Rattle.dom_semantics.specs.Bounds.{is_short}
 use Rattle.dom_semantics.specs.Stage.{is_grant_set}
-use Rattle.dom_semantics.specs.Stores.{is_short_owner}
+use Rattle.dom_semantics.specs.Stores.{is_owner, is_short_owner}
 use Rattle.small_forms.specs.declared.limits.TheConstants.{SMALL_PAGE_LIMIT}
 use Rattle.small_forms.specs.declared.userscript.Userscript.{Userscript}
 use Rattle.small_forms.specs.Scripts.{IsUserscript, block_end, block_start, userscript_line}
@@ -61,6 +60,34 @@ few scripts h =
     length-map (map script_given scripts) (λ (script : given.Userscript). script.owner) ∙ length-map scripts script_given in
     within _ USERSCRIPT_LIMIT (omega (arith, h, long))
 
+-- ---- no two share their values
+
+abbrev owner_given : Userscript → Owner
+owner_given script = record { namespace = []; name = script.name }
+
+owners_are : (scripts : List Userscript) → AreUserscripts scripts → given.owners_in (map script_given scripts) ≡ map owner_given scripts
+owners_are [] h = refl
+owners_are (script ∷ scripts) h = rw (read_script script h.0) (ap (λ os. owner_given script ∷ os) (owners_are scripts h.1))
+
+differ : (a b : List ℕ) → a ≢ b → bytes_eq a b ≡ false
+differ a b h = by (bytes_eq a b) refl
+  where
+    by : (c : Bool) → bytes_eq a b ≡ c → bytes_eq a b ≡ false
+    by true e = absurd (h ((bytes_eq-Decides a b).0 e))
+    by false e = e
+
+none_alike : (name : List ℕ) (scripts : List Userscript) → ((k : ℕ) (d : List ℕ) → k < length (map (λ (script : Userscript). script.name) scripts)
+    → name ≢ slice_index_or (map (λ (script : Userscript). script.name) scripts) k d) → list_any (is_owner (record { namespace = []; name = name })) (map owner_given scripts) ≡ false
+none_alike name [] h = refl
+none_alike name (script ∷ scripts) h =
+    rw (differ name script.name (h 0 [] (omega arith))) (none_alike name scripts (λ k d less. h (suc k) d (omega (arith, less))))
+
+names_apart : (scripts : List Userscript) → AllPairs (λ a b. a ≢ b) (map (λ (script : Userscript). script.name) scripts) → given.are_apart (map owner_given scripts) ≡ true
+names_apart [] h = refl
+names_apart (script ∷ scripts) h =
+    rw (none_alike script.name scripts (λ k d less. h 0 (suc k) d (omega arith) (omega (arith, less))))
+    (names_apart scripts (λ i j d less short. h (suc i) (suc j) d (omega (arith, less)) (omega (arith, short))))
+
 pub given_in_order : (address : List ℕ) (pieces : List Piece) (scripts : List Userscript) (read : List ℕ → Option (List (List Compound))) → IsSmall address scripts read
     → are_cut (map piece_given pieces) ≡ true → IsGiven (given_of address pieces scripts read)
 given_in_order address pieces scripts read small cut = record {
@@ -76,6 +103,6 @@ given_in_order address pieces scripts read small cut = record {
   };
   pieces = cut;
   refused = all_read scripts small.forms;
-  owners = small.owners;
+  owners = ap given.are_apart (owners_are scripts small.forms) ∙ names_apart scripts small.names;
   lines = refl;
 }

@@ -1,5 +1,5 @@
 -- Which mark comes next in a small run, and how a mark more leads it on.
-use Rattle.std.proofs.Common.{◌≡◌, ◌∙◌, ap, sym, refl, subst, ℕ, ◌+◌, ◌<◌, Bool, true, false, List, [], ◌∷◌, ◌++◌, append_assoc, arith, length, nat_lt, slice_get, take, if◌then◌else◌, Option, Some, None}
+use Rattle.std.proofs.Common.{◌≡◌, ◌∙◌, ap, sym, refl, subst, ℕ, ◌+◌, ◌<◌, true, false, List, [], ◌∷◌, ◌++◌, append_assoc, arith, length, nat_lt, slice_get, take, Option, Some, None}
 use Rattle.std.proofs.lemmas.Bool.Decides.{nat_tests}
 use Rattle.door.specs.declared.values.Actor.{Actor}
 use Rattle.door.specs.declared.values.Thing.{Thing}
@@ -12,8 +12,8 @@ use Rattle.door.specs.declared.marks.Outcome.{Outcome}
 use Rattle.door.specs.declared.marks.Mark.{Mark}
 use Rattle.door.specs.declared.marks.Mark.TheVariants.{Turn, Build, Enter, Ask, Dispatch, Back, Leave}
 use Rattle.dom_semantics.specs.declared.timers.Timer.{Timer as TimerRecord}
-use Rattle.dom_semantics.specs.Stage.{Setting, Stage}
-use Rattle.dom_semantics.specs.StageOf.{Course, course_of, first_step, stage_of}
+use Rattle.dom_semantics.specs.Stage.{Setting}
+use Rattle.dom_semantics.specs.StageOf.{course_of, first_step, stage_of}
 use Rattle.solo_model.specs.Given.{Given, origin_of}
 use Rattle.solo_model.specs.Nesting.{Progress, Running, Unfinished, Walking, advanced, at_first, progress_of}
 use Rattle.solo_model.specs.NextMark.{Allows, AreAllowed, Exactly, MayEnd, Next, Nothing, next_after, next_in, next_of, turn_or_nothing, turn_steps, walk_next}

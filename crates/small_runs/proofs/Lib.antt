@@ -25,3 +25,5 @@ pub mod Readings
 pub mod Setups
 pub mod Right
 pub mod Partly
+pub mod RunningSoFar
+pub mod SoFar

@@ -1,12 +1,12 @@
 -- Where an actor of a small run does what its own machine does, what it asks fits the table.
-use Rattle.std.proofs.Common.{◌≡◌, ◌∙◌, ap, sym, refl, subst, inl, ℕ, ◌+◌, ◌<◌, ◌≤◌, suc, zero, Bool, true, false, List, [], ◌∷◌, ◌++◌, arith, length}
+use Rattle.std.proofs.Common.{◌≡◌, sym, refl, subst, inl, ℕ, ◌≤◌, suc, zero, Bool, true, false, List, [], ◌∷◌, ◌++◌, arith}
 use Rattle.door.specs.declared.grants.GrantSet.{GrantSet}
 use Rattle.door.specs.declared.zones.Zone.{Zone}
 use Rattle.door.specs.declared.zones.Zone.TheVariants.{Host, Page, XrayScript, PlainScript}
 use Rattle.door.specs.declared.requests.Request.{Request}
 use Rattle.door.specs.declared.requests.Answer.{Answer}
 use Rattle.door.specs.declared.marks.Entry.{Entry}
-use Rattle.door.specs.declared.marks.Entry.TheVariants.{Script, Listener, Timer, Serve}
+use Rattle.door.specs.declared.marks.Entry.TheVariants.{Script}
 use Rattle.small_forms.specs.declared.script.Line.{Line}
 use Rattle.js_semantics.specs.Entries.{FUEL, LEVELS, beginning, enters}
 use Rattle.js_semantics.specs.Intrinsics.{Setup, fresh}
@@ -15,13 +15,13 @@ use Rattle.js_semantics.specs.Meaning.{script_entry}
 use Rattle.js_semantics.specs.Solo.{Act, Program, Asks, Emits, Stuck, Runs, Awaits}
 use Rattle.small_scripts.specs.Trees.{body_of}
 use Rattle.small_meaning.specs.Rows.{Bare, Fresh, Reads, leave, lines_row}
-use Rattle.small_meaning.specs.Shows.{AreFit, FitsEntry, MayRun, entries_in}
+use Rattle.small_meaning.specs.Shows.{AreFit, MayRun, entries_in}
 use Rattle.small_meaning.proofs.Alike.{Alike, Ready}
 use Rattle.small_meaning.proofs.Lines.{IsOutermost, entry_alike}
 use Rattle.small_meaning.proofs.Lookups.{Begins, begins}
 use Rattle.small_meaning.proofs.Texts.{lines_sound}
 use Rattle.solo_model.specs.Solo.{Deed, IsSoloFrom, Requests, Says, deeds_of, shows_of}
-use Rattle.solo_model.specs.View.{Seen, Entered, Asked, Said, Returned}
+use Rattle.solo_model.specs.View.{Seen, Entered, Asked, Said}
 use Rattle.small_runs.proofs.Tame.{IsEnd, IsReply, IsSmallZone, IsTame, Tame, script_tame}
 use Rattle.std.proofs.lemmas.List.{append-nil}
 

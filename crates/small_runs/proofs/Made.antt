@@ -1,13 +1,12 @@
 -- By whom and as what the nodes were made: only the making of nodes changes that.
-use Rattle.std.proofs.Common.{◌≡◌, ◌∙◌, ap, sym, refl, subst, true≢false, ℕ, ◌+◌, ◌<◌, Bool, true, false, List, [], ◌∷◌, ◌++◌, append_assoc, append-nil, arith, codes, length, map, nat_eq, nat_lt, if◌then◌else◌, slice_get, slice_set, slice_index_or, Option, Some, None}
+use Rattle.std.proofs.Common.{◌≡◌, ◌∙◌, ap, sym, refl, ℕ, Bool, true, false, List, [], ◌∷◌, ◌++◌, append_assoc, append-nil, codes, length, map, if◌then◌else◌, slice_set, Option, Some, None}
 use Prim.Native.Nat.{zero, suc}
 use Rattle.std.proofs.lemmas.List.{map-append}
-use Rattle.std.proofs.lemmas.Bool.Decides.{nat_tests}
 use Rattle.std.specs.Option.{option_map_or}
 use Rattle.door.specs.declared.values.Actor.{Actor}
 use Rattle.door.specs.declared.values.Kind.{Kind}
-use Rattle.dom_semantics.specs.Forest.{Form, Root, Tagged, Written, Noted, Node, Forest, children_of, form_at, node_at, new_node, no_node, the_host}
-use Rattle.dom_semantics.specs.Changes.{created, inserted, is_empty, is_itself, moved, placed, removed, set_text_in, with_attribute, with_children, with_text, replaced_by, without}
+use Rattle.dom_semantics.specs.Forest.{Form, Root, Tagged, Written, Noted, Node, Forest, children_of, form_at, node_at, new_node, the_host}
+use Rattle.dom_semantics.specs.Changes.{created, inserted, is_empty, is_itself, moved, placed, removed, set_text_in, with_attribute, with_children, with_text, replaced_by}
 use Rattle.dom_semantics.specs.Things.{is_actor, kind_of_form}
 use Rattle.dom_semantics.specs.Titles.{head_element, title_appended, title_element, titled}
 

@@ -1,22 +1,20 @@
 -- The pieces of a page of the small form are written within the table of requests.
-use Rattle.std.proofs.Common.{◌≡◌, ◌∙◌, ap, sym, refl, subst, ℕ, ◌+◌, ◌*◌, ◌<◌, ◌≤◌, Bool, true, false, List, [], ◌∷◌, ◌++◌, arith, codes, length, length-append, map, slice_get, is_some, if◌then◌else◌, Option, Some, None}
+use Rattle.std.proofs.Common.{◌≡◌, ◌∙◌, ap, sym, refl, subst, ℕ, ◌+◌, ◌*◌, ◌≤◌, Bool, true, false, List, [], ◌∷◌, ◌++◌, arith, codes, length, length-append, map, slice_get, if◌then◌else◌, Some}
 use Rattle.std.specs.List.{flat_map}
 use Rattle.std.proofs.lemmas.List.{length-map, map-append}
-use Rattle.door.specs.declared.limits.TheConstants.{NODE_LIMIT}
 use Rattle.door.specs.declared.values.Kind.{Kind}
 use Rattle.door.specs.declared.values.Kind.TheVariants.{Document, Element, Str as StrKind}
 use Rattle.door.specs.declared.requests.Request.{Request}
 use Rattle.dom_semantics.specs.Changes.{is_empty}
 use Rattle.small_eval.specs.Pieces.{after_blocks, after_script, block_writes, head_writes, pieces_from, pieces_of, script_writes}
-use Rattle.small_forms.specs.declared.limits.TheConstants.{PAGE_SCRIPT_LIMIT, SMALL_PAGE_LIMIT}
+use Rattle.small_forms.specs.declared.limits.TheConstants.{SMALL_PAGE_LIMIT}
 use Rattle.small_forms.specs.declared.page.Page.{Page}
 use Rattle.small_forms.specs.declared.page.PageScript.{PageScript}
 use Rattle.small_forms.specs.Pages.{IsPage, blocks_text, element_text, texts_of_scripts}
 use Rattle.solo_model.specs.Given.{are_cut}
-use Rattle.solo_model.specs.Lawful.{Piece}
 use Rattle.small_runs.proofs.Building.{begins_all, few_after_all}
 use Rattle.small_runs.proofs.Running.{Paged}
-use Rattle.small_runs.proofs.Writes.{AreWrites, IsOwn, IsPlainTag, IsWrite, Write, Creates, Texts, Identifies, Appends, kinds_after, kinds_after_all, request_of, short_of}
+use Rattle.small_runs.proofs.Writes.{AreWrites, IsOwn, IsPlainTag, Write, Creates, Texts, Identifies, Appends, kinds_after, kinds_after_all, request_of, short_of}
 use Rattle.small_runs.specs.SmallGiven.{piece_given}
 
 -- ---- lists of writes

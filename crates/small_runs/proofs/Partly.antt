@@ -1,16 +1,15 @@
 -- A turn of a small run that was cut off.
-use Rattle.std.proofs.Common.{◌≡◌, ◌⊎◌, ◌∙◌, inl, inr, ap, sym, refl, subst, ℕ, ◌+◌, ◌<◌, Bool, true, false, List, [], ◌∷◌, ◌++◌, append_assoc, append-nil, arith, codes, length, map, slice_get, Option, Some, None}
+use Rattle.std.proofs.Common.{◌≡◌, ◌⊎◌, ◌∙◌, inl, inr, ap, sym, refl, subst, ℕ, ◌+◌, ◌<◌, false, List, [], ◌∷◌, ◌++◌, append_assoc, append-nil, arith, length, map, slice_get, Option, Some, None}
 use Rattle.door.specs.declared.limits.TheConstants.{NODE_LIMIT}
 use Rattle.door.specs.declared.values.Actor.{Actor}
 use Rattle.door.specs.declared.values.Kind.{Kind}
 use Rattle.door.specs.declared.values.TheConstants.{PAGE}
 use Rattle.door.specs.declared.requests.Request.{Request}
-use Rattle.door.specs.declared.marks.Outcome.{Outcome}
 use Rattle.door.specs.declared.marks.Task.{Task}
-use Rattle.door.specs.declared.marks.Task.TheVariants.{Start, Piece as PieceTask, Ready, Load}
+use Rattle.door.specs.declared.marks.Task.TheVariants.{Start, Piece as PieceTask}
 use Rattle.door.specs.declared.marks.Entry.TheVariants.{Script}
 use Rattle.door.specs.declared.marks.Mark.{Mark}
-use Rattle.door.specs.declared.marks.Mark.TheVariants.{Turn, Build, Enter, Ask, Dispatch, Back, Leave, Serve, Served}
+use Rattle.door.specs.declared.marks.Mark.TheVariants.{Turn, Enter, Ask, Leave}
 use Rattle.dom_semantics.specs.Forest.{the_host}
 use Rattle.dom_semantics.specs.Stage.{Setting}
 use Rattle.dom_semantics.specs.StageOf.{stage_of}
@@ -18,7 +17,7 @@ use Rattle.dom_semantics.specs.Things.{is_actor}
 use Rattle.solo_model.specs.Acts.{Setups, setups_of}
 use Rattle.solo_model.specs.Genuine.{AreTrueMarks}
 use Rattle.solo_model.specs.Given.{Given}
-use Rattle.solo_model.specs.Lawful.{AreAsksOf, AreBuilds, Input, IsEntry, IsPieceTurn, IsScripted, IsTurn, Piece}
+use Rattle.solo_model.specs.Lawful.{AreAsksOf, AreBuilds, Input, IsEntry, IsPieceTurn, IsScripted, Piece}
 use Rattle.solo_model.specs.Nesting.{Running}
 use Rattle.solo_model.specs.NextMark.{AreAllowed}
 use Rattle.solo_model.specs.Tasks.{first_tasks}
@@ -27,12 +26,12 @@ use Rattle.solo_model.specs.Truth.{IsGenuineAfter}
 use Rattle.solo_model.specs.Turns.{Enters, Places, script_steps, start_steps, steps_of}
 use Rattle.solo_model.specs.Turns as turns
 use Rattle.small_runs.proofs.Building.{Written, got_behind, write_steps, writes_more}
-use Rattle.small_runs.proofs.Courses.{AreNoLines, IsNoLine}
+use Rattle.small_runs.proofs.Courses.{AreNoLines}
 use Rattle.small_runs.proofs.Entering.{AllFit, asks_more, entry_fits, entry_more, fit_split, genuine_split, sound_asks, sound_entry}
-use Rattle.small_runs.proofs.Going.{Between, InTurn, enter-more, setting}
+use Rattle.small_runs.proofs.Going.{InTurn, enter-more, setting}
 use Rattle.small_runs.proofs.Same.{Begins}
 use Rattle.small_runs.proofs.Sound.{Sound, sound_enter}
-use Rattle.small_runs.proofs.Turning.{Of, Stopped, begun, got_map, load_turn, no_host, ready_turn, steps_long}
+use Rattle.small_runs.proofs.Turning.{Of, Stopped, begun, got_map, no_host, steps_long}
 use Rattle.small_runs.proofs.Writes.{AreWrites, Write, kinds_after_all, request_of}
 use Rattle.small_runs.specs.SmallGiven.{piece_given}
 

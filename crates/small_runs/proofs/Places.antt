@@ -1,11 +1,8 @@
 -- The page's own nodes stand in the forest, each with its kind.
-use Rattle.std.proofs.Common.{◌≡◌, ◌∙◌, ap, sym, refl, subst, true≢false, ℕ, ◌+◌, ◌<◌, ◌&&◌, Bool, true, false, List, [], ◌∷◌, ◌++◌, arith, length, nat_eq, nat_lt, if◌then◌else◌, slice_get, slice_index_or, Option, Some, None}
+use Rattle.std.proofs.Common.{◌≡◌, sym, refl, subst, ℕ, ◌+◌, ◌<◌, ◌&&◌, Bool, true, false, [], ◌∷◌, arith, length, nat_eq, nat_lt, if◌then◌else◌, slice_get, slice_index_or, Some}
 use Prim.Native.Nat.{zero, suc}
 use Rattle.std.proofs.lemmas.Bool.Decides.{nat_tests}
-use Rattle.door.specs.declared.values.Actor.{Actor}
 use Rattle.door.specs.declared.values.Kind.{Kind}
-use Rattle.door.specs.declared.values.Kind.TheVariants.{Window, Document, Element, Str as StrKind, Comment, Event}
-use Rattle.door.specs.declared.values.Thing.{Thing}
 use Rattle.dom_semantics.specs.Forest.{Forest, Node, form_at, the_host}
 use Rattle.dom_semantics.specs.Stage.{has_node}
 use Rattle.dom_semantics.specs.Things.{is_actor, is_kind, is_node_kind, kind_number, kind_of_form, thing_of}

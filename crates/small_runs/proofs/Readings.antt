@@ -1,5 +1,5 @@
 -- The scripts of a small run are read as their lines, and they are short.
-use Rattle.std.proofs.Common.{◌≡◌, ◌⊎◌, ◌∙◌, inl, inr, ap, sym, refl, subst, ℕ, ◌+◌, ◌≤◌, Bool, true, false, List, [], ◌∷◌, ◌++◌, arith, length, map, nat_eq, slice_get, Option, Some, None}
+use Rattle.std.proofs.Common.{◌≡◌, ◌∙◌, inl, inr, ap, subst, ℕ, ◌+◌, ◌≤◌, Bool, true, false, List, [], ◌∷◌, arith, length, map, nat_eq, slice_get, Some, None}
 use Prim.Native.Nat.{zero, suc}
 use Rattle.std.proofs.lemmas.Bool.Decides.{nat_tests}
 use Rattle.base_text.specs.declared.text.TheConstants.{TEXT_LIMIT}
@@ -7,7 +7,7 @@ use Rattle.door.specs.declared.values.Actor.{Actor}
 use Rattle.door.specs.declared.requests.Request.{Request}
 use Rattle.door.specs.declared.marks.Entry.TheVariants.{Script}
 use Rattle.door.specs.declared.marks.Mark.{Mark}
-use Rattle.door.specs.declared.marks.Mark.TheVariants.{Turn, Build, Enter, Ask, Dispatch, Back, Leave, Serve, Served}
+use Rattle.door.specs.declared.marks.Mark.TheVariants.{Enter}
 use Rattle.door.specs.declared.zones.Zone.{Zone}
 use Rattle.door.specs.declared.zones.Zone.TheVariants.{Host, Page, PlainScript, XrayScript}
 use Rattle.js_semantics.specs.Entries.{Spells}
@@ -23,7 +23,7 @@ use Rattle.small_meaning.specs.Rows.{Reads}
 use Rattle.small_meaning.specs.Shows.{FitsEntry}
 use Rattle.small_meaning.proofs.Shown.{All, AllGiven, OfScript}
 use Rattle.small_scripts.specs.Trees.{body_of}
-use Rattle.solo_model.specs.Lawful.{Input, Piece}
+use Rattle.solo_model.specs.Lawful.{Piece}
 use Rattle.solo_model.specs.Things.{the_page, userscript}
 use Rattle.solo_model.specs.View.{is_actor}
 use Rattle.small_runs.proofs.Acting.{AllOf, EntersWith, IsOfPage}

@@ -1,5 +1,5 @@
 -- A small run that was right is right by the whole definitions.
-use Rattle.std.proofs.Common.{◌≡◌, ◌≢◌, ◌⊎◌, ◌∙◌, inl, inr, ap, sym, refl, subst, true≢false, ℕ, ◌+◌, ◌<◌, ◌≤◌, Bool, true, false, List, [], ◌∷◌, ◌++◌, append-nil, arith, length, map, nat_eq, nat_le, if◌then◌else◌, slice_get, Option, Some, None}
+use Rattle.std.proofs.Common.{◌≡◌, ◌≢◌, ◌⊎◌, ◌∙◌, inl, inr, ap, sym, refl, subst, ℕ, ◌+◌, ◌≤◌, Bool, true, false, List, [], ◌∷◌, ◌++◌, append-nil, arith, length, nat_eq, nat_le, Option, None}
 use Prim.Native.Nat.{zero, suc}
 use Rattle.std.proofs.lemmas.Bool.Decides.{nat_tests}
 use Rattle.std.proofs.lemmas.List.{length-map}
@@ -7,7 +7,6 @@ use Rattle.base_text.specs.Scalars.{utf8_len}
 use Rattle.base_text.specs.declared.text.TheConstants.{TEXT_LIMIT}
 use Rattle.door.specs.declared.limits.TheConstants.{USERSCRIPT_LIMIT}
 use Rattle.door.specs.declared.values.Actor.{Actor}
-use Rattle.door.specs.declared.values.Kind.TheVariants.{Document}
 use Rattle.door.specs.declared.values.Thing.{Thing}
 use Rattle.door.specs.declared.values.Value.{Value}
 use Rattle.door.specs.declared.values.Value.TheVariants.{Str}
@@ -15,17 +14,18 @@ use Rattle.door.specs.declared.zones.Zone.{Zone}
 use Rattle.door.specs.declared.zones.Zone.TheVariants.{Page, XrayScript}
 use Rattle.door.specs.declared.members.Member.{Member}
 use Rattle.door.specs.declared.members.Member.TheVariants.{WindowDocument, DocumentTitle, DocumentSetTitle, GmLog, ConsoleLog}
-use Rattle.door.specs.declared.requests.Request.{Request}
-use Rattle.door.specs.declared.requests.Request.TheVariants.{Native, Peek, PeekKeys, Reach}
+use Rattle.door.specs.declared.requests.Request.TheVariants.{Native}
 use Rattle.door.specs.declared.marks.Entry.TheVariants.{Script}
 use Rattle.door.specs.declared.marks.Outcome.{Outcome}
 use Rattle.door.specs.declared.marks.Outcome.TheVariants.{Done, Throw, Stop, Syntax}
 use Rattle.door.specs.declared.marks.Mark.{Mark}
-use Rattle.door.specs.declared.marks.Mark.TheVariants.{Turn, Build, Enter, Ask, Dispatch, Back, Leave, Serve, Served}
+use Rattle.door.specs.declared.marks.Mark.TheVariants.{Turn, Build, Enter, Ask, Dispatch, Back, Leave}
 use Rattle.dom_semantics.specs.declared.selectors.Compound.{Compound}
 use Rattle.dom_semantics.specs.Bounds.{is_short}
 use Rattle.dom_semantics.specs.Forest.{the_host}
 use Rattle.dom_semantics.specs.Stage.{Setting}
+use Rattle.dom_semantics.specs.StageOf.{stage_of}
+use Rattle.solo_model.specs.Stage as old_stage
 use Rattle.js_semantics.specs.Entries.{beginning, enters}
 use Rattle.js_semantics.specs.Intrinsics.{Setup}
 use Rattle.js_semantics.specs.Solo.{Leaves}
@@ -34,9 +34,9 @@ use Rattle.small_forms.specs.declared.page.Page.{Page as OnePage}
 use Rattle.small_forms.specs.declared.page.PageScript.{PageScript}
 use Rattle.small_forms.specs.declared.userscript.Userscript.{Userscript}
 use Rattle.small_forms.specs.Pages.{IsPage, texts_of_scripts}
-use Rattle.small_meaning.specs.Shows.{FitsEntry, IsText, entries_in}
-use Rattle.small_meaning.proofs.Shown.{EntersOnly, entered, entries_few, shown_fit, tasks_length, turns_enter}
-use Rattle.solo_model.specs.Acts.{ActsAreSolo, setups_of}
+use Rattle.small_meaning.specs.Shows.{FitsEntry, IsText}
+use Rattle.small_meaning.proofs.Shown.{EntersOnly, entries_few, shown_fit, tasks_length, turns_enter}
+use Rattle.solo_model.specs.Acts.{setups_of}
 use Rattle.solo_model.specs.ActorView.{view_of}
 use Rattle.solo_model.specs.Closed as old
 use Rattle.solo_model.specs.Given.{Given, clocks_from, origin_of, setting_of}
@@ -47,7 +47,6 @@ use Rattle.solo_model.specs.NextMark.{IsLawful, MayEnd, Nothing, next_of}
 use Rattle.solo_model.specs.Right.{IsRight}
 use Rattle.solo_model.specs.Solo.{Deed, IsSoloFrom, Show}
 use Rattle.solo_model.specs.Solo as old_deeds
-use Rattle.solo_model.specs.Tasks.{first_tasks}
 use Rattle.solo_model.specs.Things.{the_page, userscript}
 use Rattle.solo_model.specs.Truth as truth
 use Rattle.solo_model.specs.View as old_view
@@ -58,7 +57,7 @@ use Rattle.solo_model.proofs.Steps.{is_self}
 use Rattle.small_runs.proofs.Acting.{AllOf, AllOwnTame, By, EntersWith, Ordered, all_orderly, own_tame, turns_arranged}
 use Rattle.small_runs.proofs.Asks.{FitsAsk}
 use Rattle.small_runs.proofs.Closing.{old_whole, whole_acts}
-use Rattle.small_runs.proofs.Courses.{no_clocks, quiet}
+use Rattle.small_runs.proofs.Courses.{no_clocks}
 use Rattle.small_runs.proofs.Entering.{AllFit}
 use Rattle.small_runs.proofs.Givens.{given_in_order}
 use Rattle.small_runs.proofs.Going.{nothing_next, setting}
@@ -224,7 +223,7 @@ host_other : (i j : Actor) → is_actor the_host i ≡ false → j ≡ the_host 
 host_other i j other e = ap (λ k. is_actor k i) e ∙ other
 
 -- one that doesn't act sees nothing
-unseen : (input : Input) (i : Actor) (met : old_view.Met) (before marks : List Mark) → is_actor the_host i ≡ false → (By input i → ⊥) → ArePlain marks → AllOf input marks
+pub unseen : (input : Input) (i : Actor) (met : old_view.Met) (before marks : List Mark) → is_actor the_host i ≡ false → (By input i → ⊥) → ArePlain marks → AllOf input marks
     → truth.IsGenuineAfter before marks → old_view.view_from i met marks ≡ []
 unfolding old_view.view_from
 unseen input i met before [] other none plain of said = refl
@@ -251,7 +250,7 @@ unseen input i met before (mark ∷ marks) other none plain of said = absurd pla
 abbrev pub SoloWhole : Setup → Actor → List Mark → List Deed → Type 0
 SoloWhole setup i marks due = IsSoloFrom enters (beginning setup) (shows_of (view_of i marks)) (deeds_of (view_of i marks) ++ due)
 
-whole_of : (setup : Setup) (i : Actor) (marks : List Mark) (due : List Deed) → ArePlain marks → SoloView setup i marks due → SoloWhole setup i marks due
+pub whole_of : (setup : Setup) (i : Actor) (marks : List Mark) (due : List Deed) → ArePlain marks → SoloView setup i marks due → SoloWhole setup i marks due
 whole_of setup i marks due plain solo =
     let alike : Alike (old_view.view_of i marks) (view_of i marks) = same_views i marks plain in
     let Shown : List Show → Type 0 = λ shows. IsSoloFrom enters (beginning setup) shows (deeds_of (view_of i marks) ++ due) in
@@ -259,14 +258,14 @@ whole_of setup i marks due plain solo =
     subst Shown (sym alike.shows) (subst Done (sym alike.deeds) solo)
 
 -- the setups of those that act are the same
-same_setup : (address : List ℕ) (pieces : List Piece) (scripts : List Userscript) (read : List ℕ → Option (List (List Compound))) (i : Actor) → By (input_of pieces scripts) i
+pub same_setup : (address : List ℕ) (pieces : List Piece) (scripts : List Userscript) (read : List ℕ → Option (List (List Compound))) (i : Actor) → By (input_of pieces scripts) i
     → small_setups address i ≡ setups_of (given_of address pieces scripts read) i
 same_setup address pieces scripts read i (inl is) =
     let P : Actor → Type 0 = λ a. small_setups address a ≡ setups_of (given_of address pieces scripts read) a in subst P (sym is) (same_page address pieces scripts read)
 same_setup address pieces scripts read i (inr (m, text, got, is)) =
     let P : Actor → Type 0 = λ a. small_setups address a ≡ setups_of (given_of address pieces scripts read) a in subst P (sym is) (same_script address pieces scripts read m text got)
 
-nothing_done : (setup : Setup) (i : Actor) (marks : List Mark) → ArePlain marks → old_view.view_of i marks ≡ [] → SoloWhole setup i marks []
+pub nothing_done : (setup : Setup) (i : Actor) (marks : List Mark) → ArePlain marks → old_view.view_of i marks ≡ [] → SoloWhole setup i marks []
 unfolding IsSoloFrom old_deeds.shows_of old_deeds.deeds_of
 nothing_done setup i marks plain e =
     let P : List old_view.Seen → Type 0 = λ seen. IsSoloFrom enters (beginning setup) (old_deeds.shows_of seen) (old_deeds.deeds_of seen ++ []) in
@@ -274,13 +273,13 @@ nothing_done setup i marks plain e =
 
 -- ---- a whole run
 
-host_apart : (i : Actor) → 1 ≤ i.0 → is_actor the_host i ≡ false
+pub host_apart : (i : Actor) → 1 ≤ i.0 → is_actor the_host i ≡ false
 host_apart i h = differ i.0 h
   where
     differ : (n : ℕ) → 1 ≤ n → nat_eq 0 n ≡ false
     differ n k = grind (arith, nat_tests)
 
-no_host : (i : Actor) → 1 ≤ i.0 → i ≢ the_host
+pub no_host : (i : Actor) → 1 ≤ i.0 → i ≢ the_host
 no_host i h e = none i.0 h (ap (λ (a : Actor). a.0) e)
   where
     none : (n : ℕ) → 1 ≤ n → n ≡ zero → ⊥
@@ -291,7 +290,7 @@ all_solo address marks plain acts i other =
     let P : List Deed → Type 0 = λ deeds. old.AreSolo (small_setups address) i marks deeds in
     old_whole (small_setups address) i marks [] (small_apart address) plain (subst P (sym (append-nil (old.closed_deeds (small_setups address) i marks))) (acts i other))
 
-few_tasks : (bytes : List ℕ) (page : OnePage) (scripts : List Userscript) → IsPage bytes page → length scripts ≤ USERSCRIPT_LIMIT → length (tasks_of (input_of (pieces_of page) scripts)) ≤ 1000
+pub few_tasks : (bytes : List ℕ) (page : OnePage) (scripts : List Userscript) → IsPage bytes page → length scripts ≤ USERSCRIPT_LIMIT → length (tasks_of (input_of (pieces_of page) scripts)) ≤ 1000
 few_tasks bytes page scripts is few =
     let count = tasks_length (input_of (pieces_of page) scripts) in
     let pieces = pieces_few (after_blocks page.blocks) (head_writes page.title ++ block_writes page.blocks) (texts_of_scripts page.scripts) in
@@ -299,7 +298,7 @@ few_tasks bytes page scripts is few =
     let starts = length-map scripts (λ (script : Userscript). script.text) in
     omega (arith, count, pieces, texts, starts, is.few, few)
 
-few_pieces : (bytes : List ℕ) (page : OnePage) → IsPage bytes page → length (pieces_of page) ≤ 1000
+pub few_pieces : (bytes : List ℕ) (page : OnePage) → IsPage bytes page → length (pieces_of page) ≤ 1000
 few_pieces bytes page is =
     let pieces = pieces_few (after_blocks page.blocks) (head_writes page.title ++ block_writes page.blocks) (texts_of_scripts page.scripts) in
     let texts = length-map page.scripts (λ (script : PageScript). script.text) in
@@ -328,7 +327,7 @@ whole_journal address bytes page scripts read marks laws small is lawful said =
       forms = small.forms;
     }
 
-same_setting : (given : Given) (marks : List Mark) → given.stores ≡ [] → clocks_from given.lines 0 marks ≡ [] → setting_of given marks ≡ setting given
+pub same_setting : (given : Given) (marks : List Mark) → given.stores ≡ [] → clocks_from given.lines 0 marks ≡ [] → setting_of given marks ≡ setting given
 same_setting given marks stores clocks =
     let of : Rattle.dom_semantics.specs.Stores.Stores → List (ℕ × ℕ) → Setting = λ s c. record { origin = origin_of given; stores = s; clocks = c } in
     ap (λ s. of s (clocks_from given.lines 0 marks)) stores ∙ ap (of []) clocks
@@ -377,3 +376,17 @@ whole_right address bytes page scripts read marks laws small is lawful said acts
       genuine = subst True (sym same) ran.sound.genuine;
       acts = λ i one. whole_acts (setups_of given) i marks (given_apart address pieces scripts read) jo.plain (acts_of address bytes page scripts read marks jo (λ j other. solo j other) i one);
     }
+
+-- and the document is the same by both definitions
+pub whole_document : (address bytes : List ℕ) (page : OnePage) (scripts : List Userscript) (read : List ℕ → Option (List (List Compound))) (marks : List Mark) → Laws → IsSmall address scripts read
+    → IsPage bytes page → old_lawful.IsLawful (input_of (pieces_of page) scripts) marks → truth.IsGenuine marks → AllActsAreSolo address marks
+    → (stage_of (setting_of (given_of address (pieces_of page) scripts read) marks) marks).nodes ≡ (old_stage.stage_of marks).nodes
+whole_document address bytes page scripts read marks laws small is lawful said acts =
+    let pieces : List Piece = pieces_of page in
+    let input : Input = input_of pieces scripts in
+    let given : Given = given_of address pieces scripts read in
+    let jo = whole_journal address bytes page scripts read marks laws small is lawful said in
+    let solo = all_solo address marks jo.plain acts in
+    let fits : AllFit given marks = journal_fits address bytes page scripts read marks jo (λ i other. ([], solo i other)) in
+    let ran : Ran given marks = played given input marks (small_of address pieces scripts read (few_pieces bytes page is) small.few) (tasks_same address pieces scripts read) (page_paged bytes page is) fits lawful said in
+    ap (λ (s : Setting). (stage_of s marks).nodes) (same_setting given marks refl (no_clocks 0 marks ran.sound.no_lines)) ∙ ran.sound.same.nodes

@@ -1,5 +1,5 @@
 -- A whole small run is lawful and genuine by the whole definitions.
-use Rattle.std.proofs.Common.{◌≡◌, ◌∙◌, ap, sym, refl, subst, ℕ, ◌+◌, ◌<◌, Bool, true, false, List, [], ◌∷◌, ◌++◌, append_assoc, append-nil, arith, codes, length, length-append, map, slice_get, Option, Some, None}
+use Rattle.std.proofs.Common.{◌≡◌, ◌∙◌, ap, sym, refl, subst, ℕ, ◌+◌, ◌<◌, List, [], ◌∷◌, ◌++◌, append_assoc, append-nil, length, length-append, map, slice_get, Some}
 use Rattle.door.specs.declared.limits.TheConstants.{NODE_LIMIT}
 use Rattle.door.specs.declared.values.Kind.{Kind}
 use Rattle.door.specs.declared.values.Kind.TheVariants.{Document}
@@ -7,16 +7,14 @@ use Rattle.door.specs.declared.marks.Task.{Task}
 use Rattle.door.specs.declared.marks.Task.TheVariants.{Start, Piece as PieceTask, Ready, Load}
 use Rattle.door.specs.declared.marks.Mark.{Mark}
 use Rattle.door.specs.declared.marks.Mark.TheVariants.{Turn}
-use Rattle.dom_semantics.specs.Things.{the_document, the_window}
 use Rattle.solo_model.specs.Given.{Given}
 use Rattle.solo_model.specs.Lawful as old_lawful
 use Rattle.solo_model.specs.Lawful.{AreTurns, Input, IsTurn, Piece, numbered, tasks_of}
-use Rattle.solo_model.specs.NextMark.{Nothing, next_of}
 use Rattle.solo_model.specs.Tasks.{first_tasks}
 use Rattle.solo_model.specs.Truth.{IsGenuineAfter}
 use Rattle.small_runs.proofs.Building.{begins_all, got_behind}
 use Rattle.small_runs.proofs.Entering.{AllFit, fit_split, genuine_split}
-use Rattle.small_runs.proofs.Going.{Between, between_first, nothing_next, setting}
+use Rattle.small_runs.proofs.Going.{Between, between_first}
 use Rattle.small_runs.proofs.Same.{Begins}
 use Rattle.small_runs.proofs.Sound.{Sound, sound_first}
 use Rattle.small_runs.proofs.Turning.{Of, Stopped, load_turn, piece_turn, ready_turn, start_turn}

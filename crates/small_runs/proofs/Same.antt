@@ -1,29 +1,26 @@
 -- The stage of a small run by both definitions is the same, and what is written of a page keeps it so.
-use Rattle.std.proofs.Common.{◌≡◌, ◌∙◌, ap, sym, refl, subst, true≢false, ℕ, ◌+◌, ◌<◌, ◌≤◌, suc, ◌&&◌, Bool, true, false, List, [], ◌∷◌, ◌++◌, arith, codes, length, map, nat_eq, nat_lt, if◌then◌else◌, slice_get, slice_index_or, Option, Some, None}
+use Rattle.std.proofs.Common.{◌≡◌, ◌∙◌, ap, sym, refl, subst, ℕ, ◌+◌, suc, true, List, [], ◌∷◌, ◌++◌, arith, codes, length, nat_eq, nat_lt, if◌then◌else◌, slice_get, slice_index_or, Option, Some, None}
 use Rattle.std.proofs.lemmas.Bool.Decides.{nat_tests}
 use Rattle.door.specs.declared.values.Actor.{Actor}
 use Rattle.door.specs.declared.values.Kind.{Kind}
 use Rattle.door.specs.declared.values.Kind.TheVariants.{Window, Document, Element, Str as StrKind, Comment, Event}
-use Rattle.door.specs.declared.values.Thing.{Thing}
 use Rattle.door.specs.declared.values.Value.TheVariants.{Thing as ThingValue, Str}
 use Rattle.door.specs.declared.members.Member.TheVariants.{DocumentCreateElement, DocumentCreateTextNode, ElementSetAttribute, NodeAppendChild}
 use Rattle.door.specs.declared.requests.ErrorKind.{ErrorKind}
 use Rattle.door.specs.declared.requests.Request.{Request}
 use Rattle.door.specs.declared.requests.Request.TheVariants.{Native}
-use Rattle.dom_semantics.specs.Forest.{Forest, Node, Tagged, Written, form_at, the_host}
-use Rattle.dom_semantics.specs.Changes.{create_refusal, created, insert_refusal, inserted, with_attribute}
+use Rattle.dom_semantics.specs.Forest.{Forest, Tagged, Written, the_host}
+use Rattle.dom_semantics.specs.Changes.{create_refusal, created, insert_refusal, with_attribute}
 use Rattle.dom_semantics.specs.Stage.{Origin, Stage, has_node, with_nodes}
 use Rattle.dom_semantics.specs.StageOf.{Course, built}
-use Rattle.dom_semantics.specs.Things.{is_kind, is_node_kind, kind_of_form, thing_of, the_document}
-use Rattle.dom_semantics.specs.Truth.{IsTrueBuild}
+use Rattle.dom_semantics.specs.Things.{is_node_kind, thing_of, the_document}
 use Rattle.small_eval.specs.Builds.{appended}
-use Rattle.small_eval.specs.Pieces.{appends, creates, identifies, writes}
 use Rattle.solo_model.specs.Lawful as old_lawful
 use Rattle.solo_model.specs.Stage as old
 use Rattle.solo_model.specs.Turns.{numbers_from, placed, placed_request}
-use Rattle.small_runs.proofs.Made.{Grows, kinds_in, made, made-attribute, made-created, made-inserted, mould, own-created, own_kinds}
+use Rattle.small_runs.proofs.Made.{kinds_in, made, made-attribute, made-created, mould, own-created, own_kinds}
 use Rattle.small_runs.proofs.Places.{placed_there, placed_thing}
-use Rattle.small_runs.proofs.Writes.{IsOwn, IsPlainTag, IsWrite, Makes, Write, Creates, Texts, Identifies, Appends, built_is, kinds_after, makes_child, makes_element, makes_id, makes_text, old_appended, made-appended, request_of, true_build}
+use Rattle.small_runs.proofs.Writes.{IsOwn, IsWrite, Makes, Write, Creates, Texts, Identifies, Appends, built_is, kinds_after, makes_child, makes_element, makes_id, makes_text, old_appended, made-appended, request_of}
 
 -- ---- the document is the first node
 

@@ -1,5 +1,5 @@
 -- What the actors of a small run see: entries of scripts in order, each with true answers.
-use Rattle.std.proofs.Common.{◌≡◌, ◌⊎◌, ◌∙◌, inl, inr, ap, sym, refl, subst, true≢false, ℕ, ◌+◌, ◌≤◌, ◌||◌, Bool, true, false, List, [], ◌∷◌, ◌++◌, arith, nat_eq, nat_lt, if◌then◌else◌, Option, Some, None, slice_get}
+use Rattle.std.proofs.Common.{◌≡◌, inl, inr, ap, sym, refl, subst, ℕ, ◌≤◌, Bool, true, false, List, [], ◌∷◌, ◌++◌, arith, nat_lt, if◌then◌else◌, Option, Some, None}
 use Rattle.std.proofs.lemmas.Bool.Decides.{nat_tests}
 use Rattle.std.specs.List.{list_any, position_or_len}
 use Rattle.base_text.specs.Scalars.{utf8_len}
@@ -14,14 +14,13 @@ use Rattle.door.specs.declared.members.Member.TheVariants.{WindowDocument, Docum
 use Rattle.door.specs.declared.requests.ErrorKind.{ErrorKind}
 use Rattle.door.specs.declared.requests.ErrorKind.TheVariants.{TooLong}
 use Rattle.door.specs.declared.requests.Request.{Request}
-use Rattle.door.specs.declared.requests.Request.TheVariants.{Native, Peek, PeekKeys, Reach}
+use Rattle.door.specs.declared.requests.Request.TheVariants.{Native}
 use Rattle.door.specs.declared.requests.Answer.{Answer}
 use Rattle.door.specs.declared.requests.Answer.TheVariants.{Value as ValueAnswer, Throw}
 use Rattle.door.specs.declared.marks.Entry.TheVariants.{Script}
 use Rattle.door.specs.declared.marks.Mark.{Mark}
 use Rattle.door.specs.declared.marks.Mark.TheVariants.{Turn, Build, Enter, Ask, Dispatch, Back, Leave, Serve, Served}
 use Rattle.door.specs.declared.zones.Zone.{Zone}
-use Rattle.dom_semantics.specs.Forest.{the_host}
 use Rattle.dom_semantics.specs.Titles.{title_of, title_refusal}
 use Rattle.small_forms.specs.declared.script.Line.{Line}
 use Rattle.small_meaning.specs.Rows.{Reads}
@@ -29,11 +28,11 @@ use Rattle.small_meaning.proofs.Shown.{AllEnter, AreMet}
 use Rattle.solo_model.specs.Stage.{Stage, stage_of}
 use Rattle.solo_model.specs.Things.{the_document, the_window, thing_of}
 use Rattle.solo_model.specs.Truth.{IsGenuineAfter, answer_of, refused_or, text_answer}
-use Rattle.solo_model.specs.View.{Met, Seen, Entered, Asked, Said, Returned, is_actor, is_thing, learnt, meets_answer, meets_thing, named, named_answer, named_request, view_from}
+use Rattle.solo_model.specs.View.{Met, Seen, Entered, Asked, Said, Returned, is_actor, is_thing, meets_answer, meets_thing, named, named_answer, named_request, view_from}
 use Rattle.small_runs.proofs.Asks.{only_told}
-use Rattle.small_runs.proofs.Lockstep.{AllTame, Orderly, Told}
-use Rattle.small_runs.proofs.Tame.{IsEmptyReply, IsEnd, IsReply, IsTame, IsTextReply}
-use Rattle.small_runs.proofs.Views.{ArePlain, IsPlain, IsPlainAnswer, IsPlainAsk}
+use Rattle.small_runs.proofs.Lockstep.{Told}
+use Rattle.small_runs.proofs.Tame.{IsReply}
+use Rattle.small_runs.proofs.Views.{ArePlain, IsPlainAnswer, IsPlainAsk}
 
 -- ---- plain marks
 

@@ -1,6 +1,5 @@
 -- The turn of an event of the host in a small run.
-use Rattle.std.proofs.Common.{◌≡◌, ◌∙◌, ap, sym, refl, subst, ℕ, ◌+◌, Bool, true, false, not, List, [], ◌∷◌, ◌++◌, arith, length, length-append, length-set, slice_get, Option, Some, None}
-use Rattle.door.specs.declared.values.Actor.{Actor}
+use Rattle.std.proofs.Common.{◌≡◌, ◌∙◌, ap, sym, refl, subst, ℕ, ◌+◌, Bool, true, false, not, List, [], ◌∷◌, ◌++◌, length, length-append, length-set, slice_get, None}
 use Rattle.door.specs.declared.values.Kind.{Kind}
 use Rattle.door.specs.declared.values.Thing.{Thing}
 use Rattle.door.specs.declared.values.Value.TheVariants.{Bool as BoolValue}
@@ -10,24 +9,22 @@ use Rattle.door.specs.declared.marks.Mark.{Mark}
 use Rattle.door.specs.declared.marks.Mark.TheVariants.{Build, Dispatch, Back}
 use Rattle.dom_semantics.specs.Bounds.{is_short}
 use Rattle.dom_semantics.specs.EventReplies.{event_made}
-use Rattle.dom_semantics.specs.Events.{event_at, new_event}
+use Rattle.dom_semantics.specs.Events.{event_at}
 use Rattle.dom_semantics.specs.Forest.{the_host}
 use Rattle.dom_semantics.specs.Stage.{Origin, Stage}
 use Rattle.dom_semantics.specs.StageOf.{Course, after, built, came_back, course_of, first_step, stage_of, walk_of}
 use Rattle.dom_semantics.specs.Truth.{reply_to}
 use Rattle.dom_semantics.specs.Walks.{Walk, step_of}
-use Rattle.dom_semantics.specs.Walks as walks
 use Rattle.solo_model.specs.Acts.{setups_of}
 use Rattle.solo_model.specs.Genuine.{AreTrueMarks, IsTrueMark, MayDispatch}
 use Rattle.solo_model.specs.Given.{Given, origin_of}
-use Rattle.solo_model.specs.Lawful.{event_marks}
 use Rattle.solo_model.specs.Nesting.{Walking}
-use Rattle.solo_model.specs.NextMark.{Exactly, Next, walk_next}
+use Rattle.solo_model.specs.NextMark.{Exactly, walk_next}
 use Rattle.solo_model.specs.Stage as old
-use Rattle.solo_model.specs.Turns.{Builds, Sends, Step, steps_of}
+use Rattle.solo_model.specs.Turns.{Builds, Sends, steps_of}
 use Rattle.solo_model.proofs.Growing.{genuine-more}
 use Rattle.solo_model.proofs.Journals.{stage-more}
-use Rattle.small_runs.proofs.Courses.{AreNoLines, course-more, no_lines-append, quiet}
+use Rattle.small_runs.proofs.Courses.{course-more, no_lines-append}
 use Rattle.small_runs.proofs.Events.{IsTarget, event_request, free_in, host_form, makes_event, may_send, none_due, one_event, sent}
 use Rattle.small_runs.proofs.Going.{Between, InTurn, back-more, build-more, dispatch-more, setting, turn_over}
 use Rattle.small_runs.proofs.Same.{Same, root_there}

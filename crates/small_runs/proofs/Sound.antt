@@ -1,47 +1,40 @@
 -- A small run's journal stays true, and its stage the same by both definitions, mark by mark.
-use Rattle.std.proofs.Common.{◌≡◌, ◌∙◌, ap, sym, refl, subst, ℕ, ◌+◌, ◌<◌, ◌≤◌, Bool, true, false, List, [], ◌∷◌, ◌++◌, append_assoc, arith, length, length-append, map, if◌then◌else◌, Option, Some, None}
+use Rattle.std.proofs.Common.{◌≡◌, ◌∙◌, ap, sym, refl, subst, ℕ, true, false, List, [], ◌∷◌, ◌++◌, map, Some, None}
 use Rattle.door.specs.declared.values.Actor.{Actor}
 use Rattle.door.specs.declared.values.Kind.{Kind}
-use Rattle.door.specs.declared.values.Kind.TheVariants.{Document, Event as EventKind}
+use Rattle.door.specs.declared.values.Kind.TheVariants.{Document}
 use Rattle.door.specs.declared.values.Thing.{Thing}
 use Rattle.door.specs.declared.values.Value.{Value}
-use Rattle.door.specs.declared.values.Value.TheVariants.{Thing as ThingValue, Str, Bool as BoolValue, Null, Undefined}
+use Rattle.door.specs.declared.values.Value.TheVariants.{Str}
 use Rattle.door.specs.declared.members.Member.{Member}
 use Rattle.door.specs.declared.members.Member.TheVariants.{WindowDocument, DocumentTitle, DocumentSetTitle, GmLog, ConsoleLog}
 use Rattle.door.specs.declared.requests.Answer.{Answer}
-use Rattle.door.specs.declared.requests.Answer.TheVariants.{Value as ValueAnswer, Throw}
-use Rattle.door.specs.declared.requests.Request.{Request}
 use Rattle.door.specs.declared.requests.Request.TheVariants.{Native}
 use Rattle.door.specs.declared.marks.Task.{Task}
 use Rattle.door.specs.declared.marks.Task.TheVariants.{Line, Start, Piece as PieceTask, Ready, Load, Timer}
 use Rattle.door.specs.declared.marks.Entry.TheVariants.{Script}
 use Rattle.door.specs.declared.marks.Outcome.{Outcome}
 use Rattle.door.specs.declared.marks.Mark.{Mark}
-use Rattle.door.specs.declared.marks.Mark.TheVariants.{Turn, Build, Enter, Ask, Dispatch, Back, Leave}
-use Rattle.dom_semantics.specs.Bounds.{is_short}
-use Rattle.dom_semantics.specs.EventReplies.{event_made}
-use Rattle.dom_semantics.specs.Events.{event_at}
+use Rattle.door.specs.declared.marks.Mark.TheVariants.{Turn, Build, Enter, Ask, Leave}
 use Rattle.dom_semantics.specs.Changes.{create_refusal}
 use Rattle.dom_semantics.specs.Forest.{Forest, the_host}
 use Rattle.dom_semantics.specs.HostCells.{mark_has_owners}
 use Rattle.dom_semantics.specs.Stage.{Origin, Stage, has_node}
 use Rattle.dom_semantics.specs.StageOf.{Course, after, asked, built, course_of, first_step, stage_of}
-use Rattle.dom_semantics.specs.Things.{is_actor, the_document, the_window}
+use Rattle.dom_semantics.specs.Things.{is_actor}
 use Rattle.dom_semantics.specs.Truth.{IsTrueBuild, reply_of}
 use Rattle.solo_model.specs.Acts.{setups_of}
-use Rattle.solo_model.specs.Genuine.{AreTrueMarks, IsTrueMark, MayDispatch}
+use Rattle.solo_model.specs.Genuine.{AreTrueMarks, IsTrueMark}
 use Rattle.solo_model.specs.Given.{Given, origin_of}
-use Rattle.solo_model.specs.Lawful as old_lawful
 use Rattle.solo_model.specs.Stage as old
 use Rattle.solo_model.specs.Truth.{answer_of}
-use Rattle.solo_model.specs.Turns.{placed_request}
 use Rattle.solo_model.proofs.Growing.{genuine-more}
 use Rattle.solo_model.proofs.Journals.{stage-more}
 use Rattle.small_runs.proofs.Asks.{Answers, FitsAsk, ask_answered, ask_before, nodes_asked}
 use Rattle.small_runs.proofs.Courses.{AreNoLines, IsNoLine, course-more, no_lines-append, quiet}
 use Rattle.small_runs.proofs.Going.{setting}
 use Rattle.small_runs.proofs.Made.{own-grown}
-use Rattle.small_runs.proofs.Same.{Begins, Rooted, Same, nodes_after, old_placed, placed_write, root_there, rooted-grown, same_written, write_makes, write_placed}
+use Rattle.small_runs.proofs.Same.{Begins, Same, nodes_after, placed_write, root_there, rooted-grown, same_written, write_makes}
 use Rattle.small_runs.proofs.Writes.{IsWrite, Write, kinds_after, request_of, true_build}
 
 -- all that the marks say is true, and the stage is the same; the page's own nodes are of these kinds

@@ -1,5 +1,5 @@
 -- What small scripts ask fits the table, whatever true answers they are given, and they end without a fault of syntax.
-use Rattle.std.proofs.Common.{◌≡◌, ◌⊎◌, inl, inr, ap, sym, refl, subst, ℕ, ◌+◌, ◌-◌, ◌*◌, ◌<◌, ◌≤◌, Bool, true, false, List, [], ◌∷◌, ◌++◌, arith, length, nat_le, nat_lt, if◌then◌else◌}
+use Rattle.std.proofs.Common.{◌≡◌, ◌⊎◌, inl, inr, sym, refl, subst, ℕ, ◌+◌, ◌-◌, ◌*◌, ◌≤◌, Bool, true, false, List, [], ◌∷◌, ◌++◌, arith, length, nat_le, nat_lt, if◌then◌else◌}
 use Rattle.std.proofs.lemmas.Bool.Decides.{nat_tests}
 use Rattle.std.specs.Fmt.{decimal}
 use Rattle.base_text.specs.Scalars.{utf8_len}
@@ -25,10 +25,10 @@ use Rattle.small_forms.specs.declared.script.Part.TheVariants.{Title, Number, Qu
 use Rattle.small_forms.specs.declared.script.Sum.{Sum}
 use Rattle.small_forms.specs.declared.script.Line.{Line}
 use Rattle.small_forms.specs.declared.script.Line.TheVariants.{Log, SetTitle}
-use Rattle.js_semantics.specs.Solo.{Act, Asks, Dispatches, Emits, Leaves, Program, Serves, Stuck}
+use Rattle.js_semantics.specs.Solo.{Act, Asks, Emits, Leaves, Program, Stuck}
 use Rattle.small_meaning.specs.declared.prim.Prim.{Prim}
 use Rattle.small_meaning.specs.declared.prim.Prim.TheVariants.{Number as NumberPrim, Str as StrPrim}
-use Rattle.small_meaning.specs.Rows.{Addition, Bare, Cont, Gives, Halts, Lone, Next, Plus, Throws, added, addition_row, argument_units, ask, bind, call_units, charge, document_row, follow, joined_row, leave, line_row, lines_row, log_member, log_row, logged_row, part_row, plus_row, sum_row, text_of, text_units, title_row, with_document, with_nothing, with_text, written_row}
+use Rattle.small_meaning.specs.Rows.{Addition, Bare, Cont, Gives, Halts, Lone, Next, Plus, Throws, added, addition_row, argument_units, ask, bind, call_units, charge, document_row, follow, joined_row, leave, line_row, lines_row, log_member, logged_row, part_row, plus_row, sum_row, text_of, text_units, with_document, with_nothing, with_text, written_row}
 use Rattle.small_meaning.specs.Shows.{IsText}
 use Rattle.small_meaning.proofs.Texts.{AreSound, AreSoundLines, IsSound, IsSoundSum, number_text}
 

@@ -1,5 +1,5 @@
 -- The tasks of a small run are the same by both definitions.
-use Rattle.std.proofs.Common.{◌≡◌, ◌∙◌, ap, ap₂, sym, refl, ℕ, ◌+◌, ◌<◌, ◌≤◌, List, [], ◌∷◌, ◌++◌, append-nil, arith, length, map, slice_get, Option, Some, None}
+use Rattle.std.proofs.Common.{◌≡◌, ◌∙◌, ap, refl, ℕ, ◌+◌, ◌<◌, ◌≤◌, List, [], ◌∷◌, ◌++◌, arith, length, map, slice_get, Option, Some}
 use Prim.Native.Nat.{zero, suc}
 use Rattle.std.specs.Prelude.{option_and_then}
 use Rattle.std.proofs.lemmas.List.{length-map}
@@ -13,7 +13,6 @@ use Rattle.solo_model.specs.Given as given
 use Rattle.solo_model.specs.Given.{DocumentEnd, DocumentIdle, DocumentStart, Given, Starter}
 use Rattle.solo_model.specs.Lawful.{Piece, numbered, tasks_of}
 use Rattle.solo_model.specs.Tasks.{TASK_LIMIT, first_tasks, pieces_from, starts_at}
-use Rattle.solo_model.specs.Turns.{starter_at}
 use Rattle.small_runs.proofs.Turning.{Of}
 use Rattle.small_runs.specs.SmallGiven.{given_of, input_of, piece_given, script_given}
 

@@ -1,10 +1,9 @@
 -- The turns of a small run, one by one.
-use Rattle.std.proofs.Common.{◌≡◌, ◌∙◌, ap, sym, refl, subst, ℕ, ◌+◌, ◌<◌, ◌≤◌, Bool, true, false, List, [], ◌∷◌, ◌++◌, append_assoc, append-nil, arith, codes, length, length-append, map, nat_eq, slice_get, Option, Some, None}
+use Rattle.std.proofs.Common.{◌≡◌, ◌∙◌, ap, sym, refl, subst, ℕ, ◌+◌, ◌<◌, Bool, true, false, List, [], ◌∷◌, ◌++◌, append_assoc, append-nil, arith, codes, length, length-append, map, nat_eq, slice_get, Option, Some, None}
 use Rattle.std.proofs.lemmas.Bool.Decides.{nat_tests}
 use Rattle.std.proofs.lemmas.List.{length-map}
 use Rattle.std.specs.Prelude.{option_and_then}
 use Rattle.door.specs.declared.limits.TheConstants.{NODE_LIMIT}
-use Rattle.door.specs.declared.values.Actor.{Actor}
 use Rattle.door.specs.declared.values.Kind.{Kind}
 use Rattle.door.specs.declared.values.Thing.{Thing}
 use Rattle.door.specs.declared.values.TheConstants.{PAGE}
@@ -15,12 +14,10 @@ use Rattle.door.specs.declared.marks.Entry.TheVariants.{Script}
 use Rattle.door.specs.declared.marks.Mark.{Mark}
 use Rattle.door.specs.declared.marks.Mark.TheVariants.{Turn}
 use Rattle.dom_semantics.specs.Forest.{the_host}
-use Rattle.dom_semantics.specs.Stage.{Stage}
-use Rattle.dom_semantics.specs.StageOf.{Course, course_of, stage_of}
+use Rattle.dom_semantics.specs.StageOf.{Course, stage_of}
 use Rattle.dom_semantics.specs.Things.{is_actor, the_document, the_window}
-use Rattle.solo_model.specs.Given.{DocumentEnd, Given, Starter, origin_of}
-use Rattle.solo_model.specs.Lawful.{AreBuilds, Input, IsEntry, IsPieceTurn, IsScripted, IsTurn, Piece, event_marks, host_event}
-use Rattle.solo_model.specs.Stage as old
+use Rattle.solo_model.specs.Given.{DocumentEnd, Given, origin_of}
+use Rattle.solo_model.specs.Lawful.{AreBuilds, Input, IsEntry, IsPieceTurn, IsScripted, Piece, event_marks, host_event}
 use Rattle.solo_model.specs.Tasks.{TASK_LIMIT, first_tasks}
 use Rattle.solo_model.specs.Things.{the_page, userscript}
 use Rattle.solo_model.specs.Truth.{IsGenuineAfter}

@@ -1,5 +1,5 @@
 -- What the host writes of a page: each request has a reply, and makes of the nodes what it made of them before.
-use Rattle.std.proofs.Common.{◌≡◌, ◌∙◌, ap, sym, refl, subst, true≢false, ℕ, ◌+◌, ◌<◌, ◌≤◌, ◌&&◌, Bool, true, false, List, [], ◌∷◌, ◌++◌, arith, codes, length, map, nat_le, if◌then◌else◌, slice_get, slice_index_or, Option, Some, None, IsSome, is_some}
+use Rattle.std.proofs.Common.{◌≡◌, refl, ℕ, ◌≤◌, ◌&&◌, Bool, true, List, [], ◌∷◌, ◌++◌, arith, codes, length, nat_le, if◌then◌else◌, slice_get, Option, Some, None, IsSome}
 use Rattle.std.proofs.lemmas.Bool.Decides.{nat_tests}
 use Rattle.base_text.specs.Scalars.{utf8_len}
 use Rattle.base_text.specs.declared.text.TheConstants.{TEXT_LIMIT}
@@ -17,22 +17,20 @@ use Rattle.door.specs.declared.requests.ErrorKind.{ErrorKind}
 use Rattle.door.specs.declared.requests.Request.{Request}
 use Rattle.door.specs.declared.requests.Request.TheVariants.{Native}
 use Rattle.dom_semantics.specs.Bounds.{is_short}
-use Rattle.dom_semantics.specs.Forest.{Form, Forest, Tagged, Written, the_host}
+use Rattle.dom_semantics.specs.Forest.{Forest, Tagged, Written, the_host}
 use Rattle.dom_semantics.specs.Changes.{create_refusal, created, insert_refusal, inserted, with_attribute}
 use Rattle.dom_semantics.specs.Fits.{are_of_sorts, is_request, signature}
 use Rattle.dom_semantics.specs.Grants.{is_granted}
-use Rattle.dom_semantics.specs.Names.{is_attribute_name, is_tag, lower}
+use Rattle.dom_semantics.specs.Names.{is_tag, lower}
 use Rattle.dom_semantics.specs.Reply.{Reply, gives, unless}
 use Rattle.dom_semantics.specs.Stage.{Origin, Stage, has_node, has_thing, with_nodes}
 use Rattle.dom_semantics.specs.StageOf.{built, next_or}
-use Rattle.dom_semantics.specs.Things.{is_node_kind, thing_of, the_document}
+use Rattle.dom_semantics.specs.Things.{is_node_kind, thing_of}
 use Rattle.dom_semantics.specs.Truth.{IsTrueBuild, has_all, reply_of, reply_to, row_of}
 use Rattle.small_eval.specs.Builds.{appended, unless_told}
 use Rattle.small_eval.specs.Pieces.{appends, creates, identifies, writes}
 use Rattle.solo_model.specs.Stage as old
-use Rattle.solo_model.specs.Turns.{numbers_from, placed, placed_request}
 use Rattle.small_runs.proofs.Made.{made, made-inserted}
-use Rattle.small_runs.proofs.Places.{placed_there, placed_thing}
 
 -- what is written of a page
 pub data Write : Type 0 where

@@ -1,5 +1,5 @@
 -- What a run of the small forms is given; this project's own.
-use Rattle.std.specs.Prelude.{◌≡◌, ◌≢◌, ◌≤◌, ℕ, true, List, [], ◌∷◌, length, map, nat_eq, if◌then◌else◌, Option, Some}
+use Rattle.std.specs.Prelude.{◌≢◌, ◌≤◌, ℕ, true, List, [], ◌∷◌, length, map, nat_eq, if◌then◌else◌, Option, Some, AllPairs}
 use Rattle.base_text.specs.Scalars.{utf8_len}
 use Rattle.door.specs.declared.grants.GrantSet.{GrantSet}
 use Rattle.door.specs.declared.limits.TheConstants.{ADDRESS_LIMIT, USERSCRIPT_LIMIT}
@@ -52,13 +52,13 @@ abbrev pub AreUserscripts : List Userscript → Type 0
 AreUserscripts [] = Unit {0}
 AreUserscripts (script ∷ scripts) = IsUserscript script.text script.name script.lines × AreUserscripts scripts
 
--- selectors are read by the grammar, and address and userscripts keep their limits
+-- selectors are read by the grammar, address and userscripts keep their limits, and no two userscripts say the same name
 pub record IsSmall (address : List ℕ) (scripts : List Userscript) (read : List ℕ → Option (List (List Compound))) : Type 0 where
   pub reading : IsReading read
   pub short : utf8_len address ≤ ADDRESS_LIMIT
   pub few : length scripts ≤ USERSCRIPT_LIMIT
   pub forms : AreUserscripts scripts
-  pub owners : given.are_apart (given.owners_in (map script_given scripts)) ≡ true
+  pub names : AllPairs (λ a b. a ≢ b) (map (λ (script : Userscript). script.name) scripts)
 
 -- what the actors of a small run are set up with, as it was said before: the page is actor 1, and every other that runs is a userscript
 abbrev pub small_setups : List ℕ → Setups

@@ -4,4 +4,7 @@
 
 mod laws;
 
-pub use laws::{small_givens_are_given, small_runs_are_right};
+pub use laws::{
+    small_givens_are_given, small_runs_are_right, small_runs_are_right_so_far,
+    small_runs_have_one_document,
+};
