@@ -1,0 +1,5 @@
+mod SlotLists
+mod ElementLists
+mod CellRows
+mod Keys
+mod HeapRows

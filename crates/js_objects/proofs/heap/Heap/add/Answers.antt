@@ -1,0 +1,18 @@
+use Rattle.std.proofs.Common.{refl}
+use Rattle.js_objects.proofs.HeapRows.{same_sound, same_rest, added_sound, added_rest}
+use Rattle.js_objects.proofs.heap.Heap.add.Goals as goal
+
+pub invariant_of-self : goal.invariant_of-self
+invariant_of-self c = same_sound _ _ c.self.invariant c.in_err-push_cell.ensures.err.0 c.in_err-push_cell.ensures.err.1
+
+pub returns-in_err-push_cell-clause-rest : goal.returns-in_err-push_cell-clause-rest
+returns-in_err-push_cell-clause-rest c = same_rest _ _ _ c.self.view_is c.in_err-push_cell.ensures.err.1 refl
+
+pub invariant_of-self-2 : goal.invariant_of-self-2
+invariant_of-self-2 c = ?
+
+pub returns-clause-rest : goal.returns-clause-rest
+returns-clause-rest c = ?
+
+pub returns-clause-limit : goal.returns-clause-limit
+returns-clause-limit c = ?

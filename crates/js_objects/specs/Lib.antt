@@ -1,0 +1,6 @@
+pub mod Naming
+pub mod Elements
+pub mod SlotsModel
+pub mod Defines
+pub mod Heaps
+pub mod Parts
