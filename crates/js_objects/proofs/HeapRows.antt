@@ -1,11 +1,14 @@
 -- What one cell's change does to the heap.
 use Rattle.std.proofs.Common.{◌≡◌, ◌≢◌, ℕ, zero, suc, ◌<◌, ◌≤◌, List, [], ◌∷◌, ◌++◌, ◌-◌, refl, sym, ap, subst, ◌∙◌, length, arith, inl, inr, ◌⊎◌, Option, Some, None, Result, Ok, Err}
-use Rattle.std.specs.Prelude.{slice_get, slice_set, slice_index_or, if◌then◌else◌, true, false, Bool, ◌==◌, OnErr, OnOk, IfSome, IfNone, option_map}
+use Rattle.std.specs.Prelude.{slice_get, slice_set, slice_index_or, if◌then◌else◌, true, false, Bool, ◌==◌, OnErr, OnOk, IfSome, IfNone, option_map, IsErrOf, ◌↔◌}
 use Rattle.std.proofs.lemmas.Option.{same_Some, slice_get_read, slice_get_within}
 use Rattle.door.specs.declared.values.Actor.{Actor}
 use Rattle.js_objects.specs.declared.values.CellId.{CellId}
 use Rattle.std.proofs.lemmas.Bool.{eq-eqb, ne_eqb}
+use Rattle.std.proofs.lemmas.List.{length-append}
+use Rattle.js_objects.specs.declared.values.Standard.{Standard}
 use Rattle.js_objects.specs.declared.values.HeapFault.{HeapFault}
+use Rattle.js_objects.specs.declared.values.HeapFault.TheVariants as fault
 use Rattle.js_objects.specs.declared.cell.Cell.{Cell}
 use Rattle.js_objects.specs.declared.owner.Owner.{Owner}
 use Rattle.std.specs.Cmp.Lexicographic.{bytes_decides}
@@ -15,7 +18,11 @@ use Rattle.js_objects.specs.declared.values.Slot.{Slot}
 use Rattle.js_objects.specs.declared.bindings.Binding.{Binding}
 use Rattle.js_objects.specs.SlotsModel.{name_in, name_put}
 use Rattle.js_objects.specs.Naming.{Names, value_of, bindings_of}
-use Rattle.js_objects.specs.Heaps.{Store, comes_to, Sits, SameOwners, SameRest, CountsOne, AtLimit, Changed, Sound, owned, places, standards, count_of, count_by, id}
+use Rattle.js_objects.proofs.Lists.{by_number, get_set_same, get_set_other, set_same, length_set, length_snoc, get_left, get_right, get_kept, get_added, get_one}
+use Rattle.js_objects.specs.ChainsModel.{comes_to}
+use Rattle.js_objects.proofs.OwnerRows.{length_none}
+use Rattle.js_objects.proofs.Chains.{ends_pushed, ends_kept, ends_set, some_within, within_if, closes_true, true_closes}
+use Rattle.js_objects.specs.Heaps.{Store, Closes, Ends, Sits, SameOwners, SameRest, CountsOne, AtLimit, Changed, Sound, owned, places, standards, count_of, count_by, places_by, cell_by, no_cells, HasMorePlaces, SetsFor, SkipsPlaces, GivesPlace, IsSet, HasStandard, SetsStandard, id}
 
 -- ---- reads
 
@@ -28,61 +35,37 @@ cell_here h now n x v l e = slice_get_read h.cells (length h.cells) n x refl (rw
 pub same_cell : (h now : Store) (n : ℕ) (x y : Cell) → h ≡ now → n < length now.cells → x ≡ slice_index_or h.cells n x → slice_get now.cells n ≡ Some y → x ≡ y
 same_cell h now n x y v l e g = same_Some x y (sym (cell_here h now n x v l e) ∙ rw v g)
 
+pub proto_in : (h now : Store) (n : ℕ) (x : Cell) → h ≡ now → Sound h → n < length now.cells → x ≡ slice_index_or h.cells n x → IfSome x.proto (λ p. p.0 < length now.cells)
+proto_in h now n x v s l e = rw (← v) (within_if h.cells n x x.proto s.protos (cell_here h now n x v l e) refl)
+
 -- ---- one cell is written
 
-get_set_same : {A : Type 0} (xs : List A) (n : ℕ) (y x : A) → slice_get xs n ≡ Some x → slice_get (slice_set xs n y) n ≡ Some y
-get_set_same [] n y x e = absurd (cc)
-get_set_same (z ∷ xs) zero y x e = refl
-get_set_same (z ∷ xs) (suc n) y x e = get_set_same xs n y x e
-
-get_set_other : {A : Type 0} (xs : List A) (n k : ℕ) (y : A) → k ≢ n → slice_get (slice_set xs n y) k ≡ slice_get xs k
-get_set_other [] n k y d = refl
-get_set_other (z ∷ xs) zero zero y d = absurd (d refl)
-get_set_other (z ∷ xs) zero (suc k) y d = refl
-get_set_other (z ∷ xs) (suc n) zero y d = refl
-get_set_other (z ∷ xs) (suc n) (suc k) y d = get_set_other xs n k y (λ w. d (omega arith))
-
-set_same : {A : Type 0} (xs : List A) (n : ℕ) (x : A) → slice_get xs n ≡ Some x → slice_set xs n x ≡ xs
-set_same [] n x e = absurd (cc)
-set_same (z ∷ xs) zero x e = ap (λ y. y ∷ xs) (sym (same_Some z x e))
-set_same (z ∷ xs) (suc n) x e = ap (λ r. z ∷ r) (set_same xs n x e)
-
-length_set : {A : Type 0} (xs : List A) (n : ℕ) (y : A) → length (slice_set xs n y) ≡ length xs
-length_set [] n y = refl
-length_set (x ∷ xs) zero y = refl
-length_set (x ∷ xs) (suc n) y = ap (λ k. suc k) (length_set xs n y)
-
-by_number : (k n : ℕ) (P : Type 0) → (k ≡ n → P) → (k ≢ n → P) → P
-by_number zero zero P s d = s refl
-by_number zero (suc n) P s d = d (λ w. absurd (omega arith))
-by_number (suc k) zero P s d = d (λ w. absurd (omega arith))
-by_number (suc k) (suc n) P s d = by_number k n P (λ e. s (ap (λ j. suc j) e)) (λ w. d (λ e. w (omega arith)))
-
-owned_set : (i : ℕ) (xs : List Cell) (n : ℕ) (x y : Cell) → slice_get xs n ≡ Some x → y.owner ≡ x.owner → owned i (slice_set xs n y) ≡ owned i xs
+pub owned_set : (i : ℕ) (xs : List Cell) (n : ℕ) (x y : Cell) → slice_get xs n ≡ Some x → y.owner ≡ x.owner → owned i (slice_set xs n y) ≡ owned i xs
 owned_set i [] n x y e o = refl
 owned_set i (z ∷ xs) zero x y e o = let s : z.owner ≡ y.owner = ap (λ (k : Cell). k.owner) (same_Some z x e) ∙ sym o in rw s refl
 owned_set i (z ∷ xs) (suc n) x y e o = rw (owned_set i xs n x y e o) refl
 
 -- what a call keeps of the cell that it changes
-pub record Stays (h : Store) (x y : Cell) : Type 0 where
+pub record Stays (h : Store) (n : ℕ) (x y : Cell) : Type 0 where
   pub owner : y.owner ≡ x.owner
   pub place : y.place ≡ x.place
   pub proto : (c : CellId) → y.proto ≡ Some c → c.0 < length h.cells
+  pub ends : Ends (slice_set h.cells n y)
 
-pub same_head : (h : Store) (n : ℕ) (x y : Cell) → Sound h → slice_get h.cells n ≡ Some x → y.owner ≡ x.owner → y.place ≡ x.place → y.proto ≡ x.proto → Stays h x y
-same_head h n x y s e o p q = record { owner = o; place = p; proto = λ c w. s.protos n x c e (sym q ∙ w) }
+pub same_head : (h : Store) (n : ℕ) (x y : Cell) → Sound h → slice_get h.cells n ≡ Some x → y.owner ≡ x.owner → y.place ≡ x.place → y.proto ≡ x.proto → Stays h n x y
+same_head h n x y s e o p q = record { owner = o; place = p; proto = λ c w. s.protos n x c e (sym q ∙ w); ends = ends_kept h.cells n x y e q s.ends }
 
 sits_was : (xs : List Cell) (n k i p : ℕ) (x y : Cell) → slice_get xs n ≡ Some x → y.owner ≡ x.owner → y.place ≡ x.place → Sits i p (slice_get (slice_set xs n y) k) → Sits i p (slice_get xs k)
 sits_was xs n k i p x y e o q = by_number k n (Sits i p (slice_get (slice_set xs n y) k) → Sits i p (slice_get xs k))
     (λ s w. let v : (y.owner.0 ≡ i) × (y.place ≡ Some p) = rw (s, get_set_same xs n y x e) at w in rw (s, e) (ap (λ (a : Actor). a.0) (sym o) ∙ v.0, sym q ∙ v.1))
     (λ d w. rw (get_set_other xs n k y d) at w)
 
-sits_now : (xs : List Cell) (n k i p : ℕ) (x y : Cell) → slice_get xs n ≡ Some x → y.owner ≡ x.owner → y.place ≡ x.place → Sits i p (slice_get xs k) → Sits i p (slice_get (slice_set xs n y) k)
+pub sits_now : (xs : List Cell) (n k i p : ℕ) (x y : Cell) → slice_get xs n ≡ Some x → y.owner ≡ x.owner → y.place ≡ x.place → Sits i p (slice_get xs k) → Sits i p (slice_get (slice_set xs n y) k)
 sits_now xs n k i p x y e o q = by_number k n (Sits i p (slice_get xs k) → Sits i p (slice_get (slice_set xs n y) k))
     (λ s w. let v : (x.owner.0 ≡ i) × (x.place ≡ Some p) = rw (s, e) at w in rw (s, get_set_same xs n y x e) (ap (λ (a : Actor). a.0) o ∙ v.0, q ∙ v.1))
     (λ d w. rw (get_set_other xs n k y d) w)
 
-same_places : (h k : Store) (i : ℕ) → k.owners ≡ h.owners → places k i ≡ places h i
+pub same_places : (h k : Store) (i : ℕ) → k.owners ≡ h.owners → places k i ≡ places h i
 unfolding places
 same_places h k i e = rw e refl
 
@@ -90,7 +73,7 @@ same_count : (h k : Store) (i : ℕ) → k.owners ≡ h.owners → count_of k i 
 unfolding count_of
 same_count h k i e = rw e refl
 
-pub changed_sound : (h k : Store) (n : ℕ) (x y : Cell) → Sound h → slice_get h.cells n ≡ Some x → k.cells ≡ slice_set h.cells n y → k.owners ≡ h.owners → Stays h x y → Sound k
+pub changed_sound : (h k : Store) (n : ℕ) (x y : Cell) → Sound h → slice_get h.cells n ≡ Some x → k.cells ≡ slice_set h.cells n y → k.owners ≡ h.owners → Stays h n x y → Sound k
 changed_sound h k n x y s e c o t = record {
   counted = λ i. same_count h k i o ∙ (s.counted i ∙ (sym (owned_set i h.cells n x y e t.owner) ∙ ap (owned i) (sym c)));
   placed = λ i p d w. rw c (sits_now h.cells n d.0 i p x y e t.owner t.place (s.placed i p d (rw (same_places h k i o) at w)));
@@ -98,6 +81,7 @@ changed_sound h k n x y s e c o t = record {
   protos = λ j z d g w. rw (c, length_set h.cells n y) (by_number j n (d.0 < length h.cells)
       (λ q. t.proto d (let a : Some y ≡ Some z = sym (get_set_same h.cells n y x e) ∙ (rw (c, q) at g) in ap (λ (m : Cell). m.proto) (same_Some y z a) ∙ w))
       (λ q. s.protos j z d (sym (get_set_other h.cells n j y q) ∙ (rw c at g)) w));
+  ends = rw c t.ends;
 }
 
 pub changed : (h now k : Store) (n : ℕ) (x y : Cell) (P : Cell → Cell → Type 0) → h ≡ now → slice_get h.cells n ≡ Some x → k ≡ record h { cells = slice_set h.cells n y } → P x y → Changed now k n P
@@ -123,6 +107,7 @@ same_sound h k s c o = record {
   placed = λ i p d w. rw c (s.placed i p d (rw (o.in_places i) at w));
   seated = λ i p n w. rw (o.in_places i) (s.seated i p n (rw c at w));
   protos = λ n x d w q. rw c (s.protos n x d (rw c at w) q);
+  ends = rw c s.ends;
 }
 
 pub same_rest : (h now k : Store) → h ≡ now → SameOwners h.owners k.owners → k.limit ≡ h.limit → SameRest now k
@@ -131,11 +116,7 @@ same_rest h now k v o l = rw (← v) (record { in_places = o.in_places; in_stand
 
 -- ---- a cell is added
 
-length_snoc : {A : Type 0} (xs : List A) (y : A) → length (xs ++ y ∷ []) ≡ suc (length xs)
-length_snoc [] y = refl
-length_snoc (x ∷ xs) y = ap (λ n. suc n) (length_snoc xs y)
-
-owned_pushed : (i : ℕ) (xs : List Cell) (x : Cell) → owned i (xs ++ x ∷ []) ≡ (if x.owner.0 == i then suc (owned i xs) else owned i xs)
+pub owned_pushed : (i : ℕ) (xs : List Cell) (x : Cell) → owned i (xs ++ x ∷ []) ≡ (if x.owner.0 == i then suc (owned i xs) else owned i xs)
 owned_pushed i [] x = refl
 owned_pushed i (y ∷ ys) x =
     elim (y.owner.0 == i) as (λ b. (if b then suc (owned i (ys ++ x ∷ [])) else owned i (ys ++ x ∷ [])) ≡ (if x.owner.0 == i then suc (if b then suc (owned i ys) else owned i ys) else (if b then suc (owned i ys) else owned i ys))) [
@@ -143,12 +124,12 @@ owned_pushed i (y ∷ ys) x =
       | false ↦ owned_pushed i ys x
     ]
 
-sits_left : (xs ys : List Cell) (k i p : ℕ) → Sits i p (slice_get xs k) → Sits i p (slice_get (xs ++ ys) k)
+pub sits_left : (xs ys : List Cell) (k i p : ℕ) → Sits i p (slice_get xs k) → Sits i p (slice_get (xs ++ ys) k)
 sits_left [] ys k i p h = absurd h
 sits_left (z ∷ xs) ys zero i p h = h
 sits_left (z ∷ xs) ys (suc k) i p h = sits_left xs ys k i p h
 
-sits_old : (xs : List Cell) (x : Cell) (k i p : ℕ) → x.place ≡ None → Sits i p (slice_get (xs ++ x ∷ []) k) → Sits i p (slice_get xs k)
+pub sits_old : (xs : List Cell) (x : Cell) (k i p : ℕ) → x.place ≡ None → Sits i p (slice_get (xs ++ x ∷ []) k) → Sits i p (slice_get xs k)
 sits_old [] x zero i p e h = let v : None ≡ Some p = sym e ∙ h.1 in absurd (cc)
 sits_old [] x (suc k) i p e h = absurd h
 sits_old (z ∷ xs) x zero i p e h = h
@@ -176,6 +157,7 @@ added_sound h k x s c o e t = record {
   placed = λ i p d w. rw c (sits_left h.cells (x ∷ []) d.0 i p (s.placed i p d (rw (o.in_places i) at w)));
   seated = λ i p n w. rw (o.in_places i) (s.seated i p n (sits_old h.cells x n i p e (rw c at w)));
   protos = λ n z d w q. by_pushed h.cells x z n d (d.0 < length k.cells) t (rw c at w) q (λ g. let l : d.0 < length h.cells = s.protos n z d g q in rw (c, length_snoc h.cells x) (omega arith));
+  ends = rw c (ends_pushed h.cells x t s.ends);
 }
 
 pub added_rest : (h now k : Store) (n : ℕ) → h ≡ now → CountsOne n h.owners k.owners → k.limit ≡ h.limit → SameRest now k
@@ -186,6 +168,145 @@ pub limit_owned : {A : Type 0} (r : Result A HeapFault) (h now : Store) (i : ℕ
 unfolding count_of
 limit_owned r h now i v s a = rw (← v) (subst (λ (n : ℕ). AtLimit r (h.limit ≤ n)) (s.counted i) a)
 
+-- ---- places are given and skipped
+
+get_none : (n k : ℕ) (o : Option CellId) → slice_get (no_cells n) k ≡ Some o → o ≡ None
+get_none zero k o e = absurd (cc)
+get_none (suc n) zero o e = sym (same_Some None o e)
+get_none (suc n) (suc k) o e = get_none n k o e
+
+none_there : (n k : ℕ) → k < n → slice_get (no_cells n) k ≡ Some None
+none_there zero k h = absurd (omega arith)
+none_there (suc n) zero h = refl
+none_there (suc n) (suc k) h = none_there n k (omega arith)
+
+pub skipped_sound : (h k : Store) (i n : ℕ) → Sound h → k.cells ≡ h.cells → HasMorePlaces i (no_cells n) h.owners k.owners → Sound k
+unfolding places count_of
+skipped_sound h k i n s c o = record {
+  counted = λ j. o.in_count j ∙ (s.counted j ∙ ap (owned j) (sym c));
+  placed = λ j p d w. rw c (by_number j i (Sits j p (slice_get h.cells d.0))
+      (λ q. get_added (places h i) (no_cells n) p (Some d) (Sits j p (slice_get h.cells d.0)) (rw (q, o.own) at w)
+        (λ old. s.placed j p d (rw q old))
+        (λ t f g. absurd (let e : Some d ≡ None = get_none n t (Some d) g in cc)))
+      (λ q. s.placed j p d (rw (o.others j q) at w)));
+  seated = λ j p m w. by_number j i (slice_get (places_by (slice_get k.owners j)) p ≡ Some (Some (id m)))
+      (λ q. let old : slice_get (places h j) p ≡ Some (Some (id m)) = s.seated j p m (rw c at w) in rw (q, o.own) (get_kept (places h i) (no_cells n) p (Some (id m)) (rw q at old)))
+      (λ q. rw (o.others j q) (s.seated j p m (rw c at w)));
+  protos = λ m x d w q. rw c (s.protos m x d (rw c at w) q);
+  ends = rw c s.ends;
+}
+
+pub skipped : (h now k : Store) (i to : ℕ) → h ≡ now → HasMorePlaces i (no_cells (to - length (places_by (slice_get h.owners i)))) h.owners k.owners → k.limit ≡ h.limit → SkipsPlaces now k i to
+unfolding places standards
+skipped h now k i to v o l = rw (← v) (record {
+  next = rw o.own (length-append (places h i) (no_cells (to - length (places h i))) ∙ ap (λ n. length (places h i) + n) (length_none (to - length (places h i))));
+  before = λ p b. rw o.own (get_left (places h i) (no_cells (to - length (places h i))) p b);
+  empty = λ p b t.
+      let e : p ≡ length (places h i) + (p - length (places h i)) = omega arith in
+      let m : p - length (places h i) < to - length (places h i) = omega arith in
+      rw o.own (subst (λ (q : ℕ). slice_get (places h i ++ no_cells (to - length (places h i))) q ≡ Some None) (sym e)
+        (get_right (places h i) (no_cells (to - length (places h i))) (p - length (places h i)) ∙ none_there (to - length (places h i)) (p - length (places h i)) m));
+  others = o.others;
+  in_standards = o.in_standards;
+  in_limit = l;
+})
+
+sits_none : (xs : List Cell) (n i p : ℕ) (x : Cell) → slice_get xs n ≡ Some x → x.place ≡ None → Sits i p (slice_get xs n) → ⊥
+sits_none xs n i p x e q w = let v : (x.owner.0 ≡ i) × (x.place ≡ Some p) = rw e at w in let a : None ≡ Some p = sym q ∙ v.1 in cc
+
+-- a cell without a place is changed
+pub sits_kept : (xs : List Cell) (n k i p : ℕ) (x y : Cell) → slice_get xs n ≡ Some x → x.place ≡ None → Sits i p (slice_get xs k) → Sits i p (slice_get (slice_set xs n y) k)
+sits_kept xs n k i p x y e q w = by_number k n (Sits i p (slice_get (slice_set xs n y) k))
+    (λ s. absurd (sits_none xs n i p x e q (rw s at w)))
+    (λ d. rw (get_set_other xs n k y d) w)
+
+sits_here : (xs : List Cell) (n p : ℕ) (x y : Cell) → slice_get xs n ≡ Some x → y.owner ≡ x.owner → y.place ≡ Some p → Sits x.owner.0 p (slice_get (slice_set xs n y) n)
+sits_here xs n p x y e o q = rw (get_set_same xs n y x e) (ap (λ (a : Actor). a.0) o, q)
+
+pub given_sound : (h k : Store) (n p : ℕ) (x y : Cell) → Sound h → slice_get h.cells n ≡ Some x → x.place ≡ None → y.owner ≡ x.owner → y.place ≡ Some p → y.proto ≡ x.proto → k.cells ≡ slice_set h.cells n y
+    → p ≡ length (places_by (slice_get h.owners x.owner.0)) → HasMorePlaces x.owner.0 (Some (id n) ∷ []) h.owners k.owners → Sound k
+unfolding places count_of
+given_sound h k n p x y s e z u v t c l o = record {
+  counted = λ i. o.in_count i ∙ (s.counted i ∙ (sym (owned_set i h.cells n x y e u) ∙ ap (owned i) (sym c)));
+  placed = λ i q d w. rw c (by_number i x.owner.0 (Sits i q (slice_get (slice_set h.cells n y) d.0))
+      (λ j. get_added (places h x.owner.0) (Some (id n) ∷ []) q (Some d) (Sits i q (slice_get (slice_set h.cells n y) d.0)) (rw (j, o.own) at w)
+        (λ old. sits_kept h.cells n d.0 i q x y e z (s.placed i q d (rw j old)))
+        (λ m f g. let a : (m ≡ 0) × (Some d ≡ Some (id n)) = get_one (Some (id n)) (Some d) m g in
+          let b : d.0 ≡ n = cc in
+          let r : q ≡ p = omega arith in
+          rw (b, j, r) (sits_here h.cells n p x y e u v)))
+      (λ j. sits_kept h.cells n d.0 i q x y e z (s.placed i q d (rw (o.others i j) at w))));
+  seated = λ i q m w. by_number m n (slice_get (places_by (slice_get k.owners i)) q ≡ Some (Some (id m)))
+      (λ j. let a : (y.owner.0 ≡ i) × (y.place ≡ Some q) = rw (c, j, get_set_same h.cells n y x e) at w in
+        let b : i ≡ x.owner.0 = sym a.0 ∙ ap (λ (f : Actor). f.0) u in
+        let r : Some p ≡ Some q = sym v ∙ a.1 in
+        let f : q ≡ length (places h x.owner.0) + 0 = omega (arith, same_Some p q r) in
+        rw (j, b, o.own, f) (get_right (places h x.owner.0) (Some (id n) ∷ []) 0))
+      (λ j. let old : slice_get (places h i) q ≡ Some (Some (id m)) = s.seated i q m (rw (get_set_other h.cells n m y j) at (rw c at w)) in
+        by_number i x.owner.0 (slice_get (places_by (slice_get k.owners i)) q ≡ Some (Some (id m)))
+          (λ f. rw (f, o.own) (get_kept (places h x.owner.0) (Some (id n) ∷ []) q (Some (id m)) (rw f at old)))
+          (λ f. rw (o.others i f) old));
+  protos = λ j a d g w. rw (c, length_set h.cells n y) (by_number j n (d.0 < length h.cells)
+      (λ q. s.protos n x d e (sym t ∙ (let b : Some y ≡ Some a = sym (get_set_same h.cells n y x e) ∙ (rw (c, q) at g) in ap (λ (m : Cell). m.proto) (same_Some y a b) ∙ w)))
+      (λ q. s.protos j a d (sym (get_set_other h.cells n j y q) ∙ (rw c at g)) w));
+  ends = rw c (ends_kept h.cells n x y e t s.ends);
+}
+
+pub given : (h now k : Store) (n p : ℕ) (x y z : Cell) → h ≡ now → slice_get h.cells n ≡ Some x → x.place ≡ None → y ≡ record x { place = Some p } → k.cells ≡ slice_set h.cells n y → k.limit ≡ h.limit
+    → p ≡ length (places_by (slice_get h.owners x.owner.0)) → HasMorePlaces x.owner.0 (Some (id n) ∷ []) h.owners k.owners → slice_get now.cells n ≡ Some z → GivesPlace now k n p z z.place
+unfolding places standards
+given h now k n p x y z v e q w c l t o g =
+    let a : x ≡ z = same_Some x z (sym e ∙ rw v g) in
+    rw (← a, q, ← v) (record {
+      next = t;
+      in_cells = rw (← w) c;
+      in_places = o.own;
+      others = o.others;
+      in_standards = o.in_standards;
+      in_limit = l;
+    })
+
+pub has_place : (h now k : Store) (n p : ℕ) (x z : Cell) → h ≡ now → slice_get h.cells n ≡ Some x → x.place ≡ Some p → k ≡ now → slice_get now.cells n ≡ Some z → GivesPlace now k n p z z.place
+has_place h now k n p x z v e q w g = let a : x ≡ z = same_Some x z (sym e ∙ rw v g) in rw (← a, q) (refl, w)
+
+-- ---- standard prototypes
+
+pub settled_sound : (h k : Store) (i : ℕ) (t : Standard) (c : CellId) → Sound h → k.cells ≡ h.cells → SetsFor i t c h.owners k.owners → Sound k
+unfolding places count_of
+settled_sound h k i t c s e o = record {
+  counted = λ j. o.in_count j ∙ (s.counted j ∙ ap (owned j) (sym e));
+  placed = λ j p d w. rw e (s.placed j p d (rw (o.in_places j) at w));
+  seated = λ j p n w. rw (o.in_places j) (s.seated j p n (rw e at w));
+  protos = λ n x d w q. rw e (s.protos n x d (rw e at w) q);
+  ends = rw e s.ends;
+}
+
+pub settled : (h now k : Store) (i : ℕ) (t : Standard) (c : CellId) → h ≡ now → SetsFor i t c h.owners k.owners → k.limit ≡ h.limit → SetsStandard now k i t c
+unfolding places standards
+settled h now k i t c v o l = rw (← v) (record {
+  set = o.own.set;
+  one = o.own.one;
+  rest = o.own.rest;
+  others = o.others;
+  in_places = o.in_places;
+  in_limit = l;
+})
+
+pub standard_some : (h now : Store) (i : ℕ) (e : Owner) (t : Standard) (o : Option CellId) → h ≡ now → slice_get h.owners i ≡ Some e → IfSome o (λ c. IsSet e.standards.items t c) → IfSome o (λ c. HasStandard now i t c)
+unfolding standards
+standard_some h now i e t None v g w = tt
+standard_some h now i e t (Some c) v g w = rw (← v, g) w
+
+pub standard_none : (h now : Store) (i : ℕ) (e : Owner) (t : Standard) (o : Option CellId) → h ≡ now → slice_get h.owners i ≡ Some e → IfNone o ((c : CellId) → IsSet e.standards.items t c → ⊥) → IfNone o ((c : CellId) → HasStandard now i t c → ⊥)
+unfolding standards
+standard_none h now i e t None v g w = λ c s. w c (rw (← v, g) at s)
+standard_none h now i e t (Some c) v g w = tt
+
+pub standard_out : (h now : Store) (i : ℕ) (t : Standard) → h ≡ now → slice_get h.owners i ≡ None → (c : CellId) → HasStandard now i t c → ⊥
+unfolding standards
+standard_out h now i t v g c s = rw (← v, g) at s
+
+-- ---- the empty heap, and counts
 -- ---- the empty heap, and counts
 
 no_items : {A : Type 0} (p : ℕ) → slice_get {A} [] p ≡ None
@@ -198,6 +319,7 @@ empty_sound h c o = record {
   placed = λ i p d w. absurd (let v : None ≡ Some (Some d) = rw o at w in cc);
   seated = λ i p n w. absurd (rw c at w);
   protos = λ n x d w q. absurd (let v : None ≡ Some x = rw c at w in cc);
+  ends = rw c (λ n. (1, refl));
 }
 
 pub room_some : (h now : Store) (i r : ℕ) (e : Owner) → h ≡ now → Sound h → slice_get h.owners i ≡ Some e → r ≡ h.limit - e.cells → r ≡ now.limit - owned i now.cells
@@ -230,42 +352,44 @@ put_named names key v xs ys e = rw e (put_names names key v xs)
 
 -- ---- the cell at a place
 
-same_item : {A : Type 0} (x y : Option A) → Some x ≡ Some y → x ≡ y
-same_item x y e = same_Some x y e
+cell_item : (o : Option (Option CellId)) (c : CellId) → cell_by o ≡ Some c → o ≡ Some (Some c)
+cell_item None c e = absurd (cc)
+cell_item (Some o) c e = ap (λ x. Some x) e
 
-pub place_some : (h now : Store) (i p : ℕ) (e : Owner) (o : Option CellId) → h ≡ now → Sound h → slice_get h.owners i ≡ Some e → slice_get e.places.items p ≡ Some o → IfSome o (λ c. Sits i p (slice_get now.cells c.0))
+pub place_some : (h now : Store) (i p : ℕ) (e : Owner) (o : Option CellId) → h ≡ now → Sound h → slice_get h.owners i ≡ Some e → o ≡ cell_by (slice_get e.places.items p) → IfSome o (λ c. Sits i p (slice_get now.cells c.0))
 unfolding places
 place_some h now i p e None v s g q = tt
-place_some h now i p e (Some c) v s g q = rw (← v) (s.placed i p c (rw g q))
+place_some h now i p e (Some c) v s g q = rw (← v) (s.placed i p c (rw g (cell_item (slice_get e.places.items p) c (sym q))))
 
-pub place_none : (h now : Store) (i p : ℕ) (e : Owner) (o : Option CellId) → h ≡ now → Sound h → slice_get h.owners i ≡ Some e → slice_get e.places.items p ≡ Some o → IfNone o ((n : ℕ) → Sits i p (slice_get now.cells n) → ⊥)
+pub place_none : (h now : Store) (i p : ℕ) (e : Owner) (o : Option CellId) → h ≡ now → Sound h → slice_get h.owners i ≡ Some e → o ≡ cell_by (slice_get e.places.items p) → IfNone o ((n : ℕ) → Sits i p (slice_get now.cells n) → ⊥)
 unfolding places
-place_none h now i p e None v s g q = λ n w. let a : slice_get e.places.items p ≡ Some (Some (id n)) = rw g at (s.seated i p n (rw (← v) at w)) in let b : None ≡ Some (id n) = same_item None (Some (id n)) (sym q ∙ a) in absurd (cc)
+place_none h now i p e None v s g q = λ n w.
+    let a : slice_get e.places.items p ≡ Some (Some (id n)) = rw g at (s.seated i p n (rw (← v) at w)) in
+    let b : None ≡ Some (id n) = q ∙ ap (λ x. cell_by x) a in cc
 place_none h now i p e (Some c) v s g q = tt
-
-pub place_past : (h now : Store) (i p : ℕ) (e : Owner) → h ≡ now → Sound h → slice_get h.owners i ≡ Some e → slice_get e.places.items p ≡ None → (n : ℕ) → Sits i p (slice_get now.cells n) → ⊥
-unfolding places
-place_past h now i p e v s g q n w = let a : slice_get e.places.items p ≡ Some (Some (id n)) = rw g at (s.seated i p n (rw (← v) at w)) in let b : None ≡ Some (Some (id n)) = sym q ∙ a in cc
 
 pub place_out : (h now : Store) (i p : ℕ) → h ≡ now → Sound h → slice_get h.owners i ≡ None → (n : ℕ) → Sits i p (slice_get now.cells n) → ⊥
 unfolding places
 place_out h now i p v s g n w = let a : None ≡ Some (Some (id n)) = rw g at (s.seated i p n (rw (← v) at w)) in cc
 
--- ---- chains
+-- ---- a prototype is set
 
-pub comes_none : (left : ℕ) (cells : List Cell) (n : ℕ) → false ≡ comes_to left cells n None
-unfolding comes_to
-comes_none zero cells n = refl
-comes_none (suc left) cells n = refl
+not_both_ways : (b k : Bool) → b ≡ false → b ≡ k → k ≡ true → ⊥
+not_both_ways b k f q t = let e : false ≡ true = sym f ∙ (q ∙ t) in cc
 
-pub comes_here : (left l : ℕ) (cells : List Cell) (n : ℕ) (c : CellId) → left ≡ suc l → c.0 ≡ n → true ≡ comes_to left cells n (Some c)
-unfolding comes_to
-comes_here left l cells n c e h = rw (e, eq-eqb c.0 n h) refl
+no_error : Ok {E = HeapFault} tt ≡ Err fault.Cycle → ⊥
+no_error e = cc
 
-pub comes_on : (left l : ℕ) (cells : List Cell) (n : ℕ) (c : CellId) (x : Cell) → left ≡ suc l → c.0 ≢ n → slice_get cells c.0 ≡ Some x → comes_to left cells n (Some c) ≡ comes_to l cells n x.proto
-unfolding comes_to
-comes_on left l cells n c x e h g = rw (e, ne_eqb c.0 n h, g) refl
+pub proto_stays : (h now : Store) (n : ℕ) (x : Cell) (p : Option CellId) (b : Bool) → h ≡ now → Sound h → slice_get h.cells n ≡ Some x → IfSome p (λ q. q.0 < length now.cells) → b ≡ false → b ≡ comes_to (length now.cells) now.cells n p → Stays h n x (record x { proto = p })
+proto_stays h now n x p b v s e l f q = record {
+  owner = refl;
+  place = refl;
+  proto = λ c w. some_within (length h.cells) p c (rw v l) w;
+  ends = ends_set h.cells n x (record x { proto = p }) e (λ w. not_both_ways b (comes_to (length now.cells) now.cells n p) f q (true_closes now.cells n p (rw v at s.protos) (rw v at s.ends) l (rw v at w))) s.ends;
+}
 
-pub comes_short : (left : ℕ) (cells : List Cell) (n : ℕ) (p : Option CellId) → left ≤ 0 → false ≡ comes_to left cells n p
-unfolding comes_to
-comes_short left cells n p h = let e : left ≡ 0 = omega arith in rw e refl
+pub closed : (now : Store) (n : ℕ) (p : Option CellId) (b : Bool) → b ≡ true → b ≡ comes_to (length now.cells) now.cells n p → IsErrOf (Err {T = Unit {0}} fault.Cycle) fault.Cycle ↔ Closes now.cells n p
+closed now n p b t q = (λ w. closes_true now.cells n p (sym q ∙ t), λ w. refl)
+
+pub not_closed : (h now : Store) (n : ℕ) (p : Option CellId) (b : Bool) → h ≡ now → Sound h → IfSome p (λ q. q.0 < length now.cells) → b ≡ false → b ≡ comes_to (length now.cells) now.cells n p → IsErrOf (Ok {E = HeapFault} tt) fault.Cycle ↔ Closes now.cells n p
+not_closed h now n p b v s l f q = (λ w. absurd (no_error w), λ w. absurd (not_both_ways b (comes_to (length now.cells) now.cells n p) f q (true_closes now.cells n p (rw v at s.protos) (rw v at s.ends) l w)))

@@ -1,6 +1,6 @@
 -- What contracts see of a heap: its cells by number, what each owner has of them, and the limit (own).
-use Rattle.std.specs.Prelude.{◌≡◌, ◌≢◌, ◌+◌, ◌-◌, ◌≤◌, ◌↔◌, ◌++◌, ℕ, zero, suc, Bool, true}
-use Rattle.std.specs.Prelude.{false, ◌==◌, ◌<◌, List, [], ◌∷◌, Option, Some, None, length, slice_get, slice_set, if◌then◌else◌}
+use Rattle.std.specs.Prelude.{◌≡◌, ◌≢◌, ◌+◌, ◌-◌, ◌≤◌, ◌↔◌, ◌++◌, ◌⊎◌, ℕ, zero, suc}
+use Rattle.std.specs.Prelude.{◌==◌, ◌<◌, List, [], ◌∷◌, Option, Some, None, length, slice_get, slice_set, if◌then◌else◌}
 use Rattle.std.specs.declared.result.Result.{Result}
 use Rattle.std.specs.declared.result.Result.TheVariants.{Ok, Err}
 use Rattle.door.specs.declared.values.Actor.{Actor}
@@ -29,6 +29,11 @@ abbrev pub places_by : Option Owner → List (Option CellId)
 places_by None = []
 places_by (Some o) = o.places.items
 
+-- the cell at a place, where one has it
+abbrev pub cell_by : Option (Option CellId) → Option CellId
+cell_by None = None
+cell_by (Some o) = o
+
 abbrev pub standards_by : Option Owner → List Settled
 standards_by None = []
 standards_by (Some o) = o.standards.items
@@ -49,6 +54,36 @@ pub record CountsOne (n : ℕ) (os ps : List Owner) : Type 0 where
   pub in_standards : (i : ℕ) → standards_by (slice_get ps i) ≡ standards_by (slice_get os i)
   pub own : count_by (slice_get ps n) ≡ suc (count_by (slice_get os n))
   pub others : (i : ℕ) → i ≢ n → count_by (slice_get ps i) ≡ count_by (slice_get os i)
+
+-- places that no cell has, so many
+abbrev pub no_cells : ℕ → List (Option CellId)
+no_cells zero = []
+no_cells (suc n) = None ∷ no_cells n
+
+-- .. but for one owner, which has these places more
+pub record HasMorePlaces (n : ℕ) (more : List (Option CellId)) (os ps : List Owner) : Type 0 where
+  pub own : places_by (slice_get ps n) ≡ places_by (slice_get os n) ++ more
+  pub others : (i : ℕ) → i ≢ n → places_by (slice_get ps i) ≡ places_by (slice_get os i)
+  pub in_standards : (i : ℕ) → standards_by (slice_get ps i) ≡ standards_by (slice_get os i)
+  pub in_count : (i : ℕ) → count_by (slice_get ps i) ≡ count_by (slice_get os i)
+
+-- a standard prototype is set: the first one under its name
+abbrev pub IsSet : List Settled → Standard → CellId → Type 0
+IsSet [] s c = ⊥
+IsSet (x ∷ xs) s c = ((x.standard ≡ s) × (x.cell ≡ c)) ⊎ ((x.standard ≢ s) × IsSet xs s c)
+
+-- one is set, and all others are what they were
+pub record Sets (s : Standard) (c : CellId) (xs ys : List Settled) : Type 0 where
+  pub set : IsSet ys s c
+  pub one : (d : CellId) → IsSet ys s d → d ≡ c
+  pub rest : (t : Standard) (d : CellId) → t ≢ s → IsSet ys t d ↔ IsSet xs t d
+
+-- .. but for one owner, of which this standard prototype is set
+pub record SetsFor (n : ℕ) (s : Standard) (c : CellId) (os ps : List Owner) : Type 0 where
+  pub own : Sets s c (standards_by (slice_get os n)) (standards_by (slice_get ps n))
+  pub others : (i : ℕ) → i ≢ n → standards_by (slice_get ps i) ≡ standards_by (slice_get os i)
+  pub in_places : (i : ℕ) → places_by (slice_get ps i) ≡ places_by (slice_get os i)
+  pub in_count : (i : ℕ) → count_by (slice_get ps i) ≡ count_by (slice_get os i)
 
 unfoldable pub places : Store → ℕ → List (Option CellId)
 places h i = places_by (slice_get h.owners i)
@@ -85,15 +120,19 @@ abbrev pub proto_by : Option Cell → Option CellId
 proto_by None = None
 proto_by (Some x) = x.proto
 
--- whether a chain of prototypes comes to a cell, of which so many are looked at (ECMAScript, 10.1.2.1)
-unfoldable pub comes_to : ℕ → List Cell → ℕ → Option CellId → Bool
-comes_to zero cells n next = false
-comes_to (suc left) cells n None = false
-comes_to (suc left) cells n (Some c) = if c.0 == n then true else comes_to left cells n (proto_by (slice_get cells c.0))
+-- the cell that is so many steps above (ECMAScript, 10.1.1)
+abbrev pub above : ℕ → List Cell → Option CellId → Option CellId
+above zero cells o = o
+above (suc k) cells None = None
+above (suc k) cells (Some c) = above k cells (proto_by (slice_get cells c.0))
 
--- a chain closes where the new prototype is the cell, or has it above; no chain has more cells than the heap
-abbrev pub closes : List Cell → ℕ → Option CellId → Bool
-closes cells n p = comes_to (length cells) cells n p
+-- a chain closes where the new prototype is the cell, or has it above (ECMAScript, 10.1.2.1)
+abbrev pub Closes : List Cell → ℕ → Option CellId → Type 0
+Closes cells n p = (k : ℕ) × (above k cells p ≡ Some (id n))
+
+-- each chain comes to an end
+abbrev pub Ends : List Cell → Type 0
+Ends cells = (n : ℕ) → (k : ℕ) × (above k cells (Some (id n)) ≡ None)
 
 -- ---- what calls do
 
@@ -130,7 +169,7 @@ pub record SkipsPlaces (h k : Store) (i to : ℕ) : Type 0 where
 
 -- a standard prototype of an owner
 abbrev pub HasStandard : Store → ℕ → Standard → CellId → Type 0
-HasStandard h i s c = (k : ℕ) × (slice_get (standards h i) k ≡ Some (record { standard = s; cell = c }))
+HasStandard h i s c = IsSet (standards h i) s c
 
 -- one is set, and all others are what they were
 pub record SetsStandard (h k : Store) (i : ℕ) (s : Standard) (c : CellId) : Type 0 where
@@ -152,10 +191,11 @@ AtLimit (Err fault.Kind) P = ⊥
 
 -- ---- what holds of every heap
 
--- Each owner's count is that of its cells, places and cells agree, so that two cells of one place are one, and a prototype is a cell of the
--- heap.
+-- Each owner's count is that of its cells, places and cells agree, so that two cells of one place are one, a prototype is a cell of
+-- the heap, and no chain of prototypes closes.
 pub record Sound (h : Store) : Type 0 where
   pub counted : (i : ℕ) → count_of h i ≡ owned i h.cells
   pub placed : (i p : ℕ) (c : CellId) → slice_get (places h i) p ≡ Some (Some c) → Sits i p (slice_get h.cells c.0)
   pub seated : (i p n : ℕ) → Sits i p (slice_get h.cells n) → slice_get (places h i) p ≡ Some (Some (id n))
   pub protos : (n : ℕ) (x : Cell) (c : CellId) → slice_get h.cells n ≡ Some x → x.proto ≡ Some c → c.0 < length h.cells
+  pub ends : Ends h.cells

@@ -1,6 +1,6 @@
 //! The heap: the cells of all actors by number, and the calls that read and change them.
 
-ghost use Rattle.std.specs.Prelude.{◌≡◌, ◌<◌, ◌≤◌, ◌-◌, ◌^◌, ◌↔◌, ◌++◌, ◌∷◌, [], ℕ, true, OnOk, OnErr, IfOk, IfErr, IfSome, IfNone, IsErrOf};
+ghost use Rattle.std.specs.Prelude.{◌≡◌, ◌<◌, ◌≤◌, ◌-◌, ◌^◌, ◌↔◌, ◌++◌, ◌∷◌, [], ℕ, OnOk, OnErr, IfOk, IfErr, IfSome, IfNone, IsErrOf};
 ghost use Rattle.std.specs.Prelude.{Some, None, length, slice_get};
 ghost use Rattle.std.specs.Option.{option_copied};
 ghost use Rattle.js_semantics.specs.Properties.{own_of, own_keys};
@@ -9,14 +9,15 @@ ghost use Rattle.js_objects.specs.declared.values.Form.TheVariants.{Scope};
 ghost use Rattle.js_objects.specs.declared.values.HeapFault.TheVariants as fault;
 ghost use Rattle.js_objects.specs.Naming.{Names, cell_of};
 ghost use Rattle.js_objects.specs.Defines.{Binds, BoundAs, Defines, ReadsAs, Removes};
-ghost use Rattle.js_objects.specs.Heaps.{fresh_cell, owned, count_by, closes, Sits, SameOwners, SameRest, CountsOne};
+ghost use Rattle.js_objects.specs.Heaps.{fresh_cell, owned, count_by, Closes, Sits, SameOwners, SameRest, CountsOne};
+ghost use Rattle.js_objects.specs.ChainsModel.{comes_to};
 ghost use Rattle.js_objects.specs.Heaps.{AtLimit, Changed, GivesPlace, SkipsPlaces, HasStandard, SetsStandard};
 ghost use Rattle.js_objects.specs.declared.values.CellId.{CellId as AnyId};
 
 use crate::cell::Cell;
-use crate::owner::{Owner, entry_of, reserve, settle, standard_among};
+use crate::owner::{Owner, add_place, cell_among, entry_of, reserve, settle_for, skip_to, standard_among};
 use crate::values::{CellId, Form, HeapFault, Prop, Slot, Standard};
-use base_text::{Mem, NoMemory, Text};
+use base_text::{Mem, Text};
 use door::Actor;
 use std::alloc::Global;
 use std::marker::Model;
@@ -166,7 +167,7 @@ impl Heap {
         requires within { IfSome p (λ q. q.0 < length self.old.cells) }
         ensures ok { OnOk result (Changed self.old self.new c.0 (λ x y. y ≡ record x { proto = p })) }
         ensures err { OnErr result (self.new ≡ self.old) }
-        ensures cycle { IsErrOf result HeapFault.Cycle ↔ (closes self.old.cells c.0 p ≡ true) }
+        ensures cycle { IsErrOf result HeapFault.Cycle ↔ Closes self.old.cells c.0 p }
         ensures only { IfErr result (λ e. e ≡ fault.Cycle) }
     {
         if self.closes(c, p) {
@@ -179,7 +180,7 @@ impl Heap {
     /// Whether a chain of prototypes comes to a cell.
     fn closes(&self, c: CellId, p: Option<CellId>) -> bool
         requires { IfSome p (λ q. q.0 < length self.now.cells) }
-        ensures { result ≡ closes self.now.cells c.0 p }
+        ensures { result ≡ comes_to (length self.now.cells) self.now.cells c.0 p }
     {
         let mut next = p;
         let mut left = self.cells.len();
@@ -227,11 +228,9 @@ impl Heap {
         ensures some { IfSome result (λ c. Sits owner.0 place (slice_get self.now.cells c.0)) }
         ensures none { IfNone result ((n : ℕ) → Sits owner.0 place (slice_get self.now.cells n) → ⊥) }
     {
-        let entry = entry_of(&self.owners, owner)?;
-        if (place as usize) < entry.places.len() {
-            entry.places[place as usize]
-        } else {
-            None
+        match entry_of(&self.owners, owner) {
+            Some(entry) => cell_among(entry, place),
+            None => None,
         }
     }
 
@@ -241,18 +240,12 @@ impl Heap {
         ensures ok { IfOk result (λ p. (x : AnyCell) → slice_get self.old.cells c.0 ≡ Some x → GivesPlace self.old self.new c.0 p x x.place) }
         ensures err { OnErr result ((self.new.cells ≡ self.old.cells) × SameRest self.old self.new) }
     {
-        let cell = &mut self.cells[c.0 as usize];
-        if let Some(place) = cell.place {
+        if let Some(place) = self.cells[c.0 as usize].place {
             return Ok(place);
         }
-        reserve(&mut self.owners, cell.owner, self.alloc)?;
-        let places = &mut self.owners[cell.owner.0 as usize].places;
-        if places.len() >= u32::MAX as usize {
-            return Err(NoMemory);
-        }
-        let place = places.len() as u32;
-        places.push(Some(c))?;
-        cell.place = Some(place);
+        let owner = self.cells[c.0 as usize].owner;
+        let place = add_place(&mut self.owners, owner, c, self.alloc)?;
+        self.cells[c.0 as usize].place = Some(place);
         Ok(place)
     }
 
@@ -263,16 +256,7 @@ impl Heap {
         ensures err { OnErr result (SameRest self.old self.new) }
         ensures cells { self.new.cells ≡ self.old.cells }
     {
-        reserve(&mut self.owners, owner, self.alloc)?;
-        let places = &mut self.owners[owner.0 as usize].places;
-        let before = places.len();
-        while places.len() < to as usize {
-            if places.push(None).is_err() {
-                places.truncate(before);
-                return Err(NoMemory);
-            }
-        }
-        Ok(())
+        skip_to(&mut self.owners, owner, to, self.alloc)
     }
 
     /// A standard prototype of an owner, where it was set.
@@ -280,8 +264,10 @@ impl Heap {
         ensures some { IfSome result (λ c. HasStandard self.now owner.0 s c) }
         ensures none { IfNone result ((c : AnyId) → HasStandard self.now owner.0 s c → ⊥) }
     {
-        let entry = entry_of(&self.owners, owner)?;
-        standard_among(&entry.standards, s)
+        match entry_of(&self.owners, owner) {
+            Some(entry) => standard_among(entry, s),
+            None => None,
+        }
     }
 
     /// Sets a standard prototype of an owner.
@@ -291,8 +277,7 @@ impl Heap {
         ensures err { OnErr result (SameRest self.old self.new) }
         ensures cells { self.new.cells ≡ self.old.cells }
     {
-        reserve(&mut self.owners, owner, self.alloc)?;
-        settle(&mut self.owners[owner.0 as usize].standards, s, c)
+        settle_for(&mut self.owners, owner, s, c, self.alloc)
     }
 
     /// The scope around a scope.
