@@ -114,11 +114,10 @@ impl Cell {
         ensures err { OnErr result (self.new ≡ self.old) }
     {
         if is_length(key) {
-            self.elements.define_length(prop)
-        } else {
-            self.slots.put(key, prop)?;
-            Ok(())
+            return self.elements.define_length(&prop);
         }
+        self.slots.put(key, prop)?;
+        Ok(())
     }
 
     /// Removes an own property, and answers whether there was one. An array keeps its places and its length.

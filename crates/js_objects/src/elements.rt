@@ -93,8 +93,8 @@ impl Elements {
 
     /// Defines the length: a smaller one cuts. It is a number, writable and not enumerable, and none is greater or
     /// below 0.
-    pub(crate) fn define_length(&mut self, prop: Prop) -> Result<(), HeapFault>
-        ensures row { TellsElements result self.new (λ names cell. length_defined cell (values_of names self.old) (property_of names prop)) }
+    pub(crate) fn define_length(&mut self, prop: &Prop) -> Result<(), HeapFault>
+        ensures row { TellsElements result self.new (λ names cell. length_defined cell (values_of names self.old) (property_of names prop.now)) }
         ensures err { OnErr result (self.new ≡ self.old) }
     {
         match prop {
@@ -102,7 +102,7 @@ impl Elements {
                 value,
                 writable,
                 enumerable,
-            } => self.cut_by(value, writable, enumerable),
+            } => self.cut_by(value, *writable, *enumerable),
             Prop::Accessor { .. } => Err(HeapFault::Kind),
         }
     }
@@ -127,8 +127,8 @@ impl Elements {
         self.put(place, value)
     }
 
-    fn cut_by(&mut self, value: Slot, writable: bool, enumerable: bool) -> Result<(), HeapFault>
-        ensures row { TellsElements result self.new (λ names cell. length_from (writable && not enumerable) cell (values_of names self.old) (value_of names value)) }
+    fn cut_by(&mut self, value: &Slot, writable: bool, enumerable: bool) -> Result<(), HeapFault>
+        ensures row { TellsElements result self.new (λ names cell. length_from (writable && not enumerable) cell (values_of names self.old) (value_of names value.now)) }
         ensures err { OnErr result (self.new ≡ self.old) }
     {
         match value {
@@ -139,15 +139,15 @@ impl Elements {
 
     fn cut_by_number(
         &mut self,
-        prim: Primitive,
+        prim: &Primitive,
         writable: bool,
         enumerable: bool,
     ) -> Result<(), HeapFault>
-        ensures row { TellsElements result self.new (λ names cell. length_from (writable && not enumerable) cell (values_of names self.old) (AnyPrimitive prim)) }
+        ensures row { TellsElements result self.new (λ names cell. length_from (writable && not enumerable) cell (values_of names self.old) (AnyPrimitive prim.now)) }
         ensures err { OnErr result (self.new ≡ self.old) }
     {
         match prim {
-            Primitive::Number(count) => self.cut_to(count, writable, enumerable),
+            Primitive::Number(count) => self.cut_to(*count, writable, enumerable),
             _ => Err(HeapFault::Kind),
         }
     }
