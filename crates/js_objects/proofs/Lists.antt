@@ -1,5 +1,5 @@
 -- What stands where in a list of which an item is written or added.
-use Rattle.std.proofs.Common.{◌≡◌, ◌≢◌, ℕ, zero, suc, ◌+◌, ◌<◌, List, [], ◌∷◌, ◌++◌, refl, sym, ap, length, arith, Option, Some, None, ◌⊎◌, inl, inr}
+use Rattle.std.proofs.Common.{◌≡◌, ◌≢◌, ℕ, zero, suc, ◌+◌, ◌<◌, List, [], ◌∷◌, ◌++◌, refl, sym, ap, ◌∙◌, length, arith, Option, Some, None, ◌⊎◌, inl, inr}
 use Rattle.std.specs.Prelude.{slice_get, slice_set}
 use Rattle.std.proofs.lemmas.Option.{same_Some}
 
@@ -51,8 +51,8 @@ get_left (x ∷ xs) ys zero h = refl
 get_left (x ∷ xs) ys (suc n) h = get_left xs ys n (omega arith)
 
 pub get_right : {A : Type 0} (xs ys : List A) (n : ℕ) → slice_get (xs ++ ys) (length xs + n) ≡ slice_get ys n
-get_right [] ys n = refl
-get_right (x ∷ xs) ys n = get_right xs ys n
+get_right [] ys n = let e : 0 + n ≡ n = omega arith in ap (λ k. slice_get ys k) e
+get_right (x ∷ xs) ys n = let e : suc (length xs) + n ≡ suc (length xs + n) = omega arith in ap (λ k. slice_get (x ∷ (xs ++ ys)) k) e ∙ get_right xs ys n
 
 -- what stood stands
 pub get_kept : {A : Type 0} (xs ys : List A) (n : ℕ) (x : A) → slice_get xs n ≡ Some x → slice_get (xs ++ ys) n ≡ Some x
@@ -62,9 +62,9 @@ get_kept (z ∷ xs) ys (suc n) x e = get_kept xs ys n x e
 
 -- what stands stood, or is one of those that were added
 pub get_added : {A : Type 0} (xs ys : List A) (n : ℕ) (x : A) (P : Type 0) → slice_get (xs ++ ys) n ≡ Some x → (slice_get xs n ≡ Some x → P) → ((k : ℕ) → n ≡ length xs + k → slice_get ys k ≡ Some x → P) → P
-get_added [] ys n x P e old new = new n refl e
+get_added [] ys n x P e old new = new n (omega arith) e
 get_added (z ∷ xs) ys zero x P e old new = old e
-get_added (z ∷ xs) ys (suc n) x P e old new = get_added xs ys n x P e old (λ k q g. new k (ap (λ j. suc j) q) g)
+get_added (z ∷ xs) ys (suc n) x P e old new = get_added xs ys n x P e old (λ k q g. new k (omega arith) g)
 
 pub get_one : {A : Type 0} (x y : A) (k : ℕ) → slice_get (x ∷ []) k ≡ Some y → (k ≡ 0) × (y ≡ x)
 get_one x y zero e = (refl, sym (same_Some x y e))

@@ -1,5 +1,5 @@
 -- What one owner's entry is among the entries, and what its change does to them.
-use Rattle.std.proofs.Common.{◌≡◌, ◌≢◌, ℕ, zero, suc, ◌+◌, ◌-◌, ◌≤◌, List, [], ◌∷◌, ◌++◌, refl, sym, ap, ◌∙◌, length, append_assoc, arith, Option, Some, None}
+use Rattle.std.proofs.Common.{◌≡◌, ◌≢◌, ℕ, zero, suc, ◌+◌, ◌-◌, ◌<◌, ◌≤◌, List, [], ◌∷◌, ◌++◌, refl, sym, ap, ◌∙◌, length, append_assoc, arith, Option, Some, None}
 use Rattle.std.specs.Prelude.{slice_get, slice_set}
 use Rattle.std.proofs.lemmas.List.{length-append}
 use Rattle.js_objects.specs.declared.values.CellId.{CellId}
@@ -133,6 +133,11 @@ filled_next xs ys zs e w =
     let k : length zs ≡ length ys + 1 = ap (λ r. length r) w ∙ length-append ys (None ∷ []) in
     let n : length zs - length xs ≡ suc (length ys - length xs) = omega arith in
     rw (n, ← none_snoc (length ys - length xs), ← append_assoc xs (no_cells (length ys - length xs)) (None ∷ [])) (w ∙ ap (λ r. r ++ None ∷ []) e)
+
+pub filled_less : (xs ys zs : List (Option CellId)) (n to : ℕ) → ys ≡ xs ++ no_cells (length ys - length xs) → zs ≡ ys ++ None ∷ [] → n ≡ length ys → n < to → length zs - length xs ≤ to - length xs
+filled_less xs ys zs n to e w m h =
+    let k : length zs ≡ length ys + 1 = ap (λ r. length r) w ∙ length-append ys (None ∷ []) in
+    omega arith
 
 pub filled_last : (xs ys : List (Option CellId)) (to : ℕ) → ys ≡ xs ++ no_cells (length ys - length xs) → length ys - length xs ≤ to - length xs → to ≤ length ys → ys ≡ xs ++ no_cells (to - length xs)
 filled_last xs ys to e l h = let k : length ys - length xs ≡ to - length xs = omega arith in rw (← k) e

@@ -1,5 +1,5 @@
 -- Standard prototypes: which one is set, and what setting one does.
-use Rattle.std.proofs.Common.{◌≡◌, ◌≢◌, ℕ, suc, ◌<◌, ◌≤◌, List, [], ◌∷◌, ◌++◌, refl, sym, ap, ◌∙◌, length, arith, inl, inr, true, false}
+use Rattle.std.proofs.Common.{◌≡◌, ◌≢◌, ℕ, suc, ◌<◌, ◌≤◌, List, [], ◌∷◌, ◌++◌, refl, sym, ap, subst, ◌∙◌, length, arith, inl, inr, true, false}
 use Rattle.std.specs.Prelude.{slice_set, slice_index_or, if◌then◌else◌, ◌==◌}
 use Rattle.std.proofs.lemmas.Bool.{eqb-true, eq-eqb, true≢false}
 use Rattle.door.specs.declared.values.Kind.TheVariants as kind
@@ -42,7 +42,7 @@ told_other s t e w = true≢false (sym (eq-eqb (standard_number s) (standard_num
 
 -- ---- which is set
 
-pub set_here : (s : Standard) (xs : List Settled) (d : Settled) → standard_spot s xs < length xs → IsSet xs s (slice_index_or xs (standard_spot s xs) d).cell
+set_here : (s : Standard) (xs : List Settled) (d : Settled) → standard_spot s xs < length xs → IsSet xs s (slice_index_or xs (standard_spot s xs) d).cell
 set_here s [] d h = absurd (omega arith)
 set_here s (x ∷ xs) d h =
     elim (standard_number x.standard == standard_number s) as (λ b. (standard_number x.standard == standard_number s) ≡ b → (if b then 0 else suc (standard_spot s xs)) < length (x ∷ xs) → IsSet (x ∷ xs) s (slice_index_or (x ∷ xs) (if b then 0 else suc (standard_spot s xs)) d).cell) [
@@ -50,7 +50,7 @@ set_here s (x ∷ xs) d h =
       | false ↦ λ e l. let m : standard_spot s xs < length xs = omega arith in inr (told_other x.standard s e, set_here s xs d m)
     ] refl h
 
-pub set_nowhere : (s : Standard) (xs : List Settled) (c : CellId) → length xs ≤ standard_spot s xs → IsSet xs s c → ⊥
+set_nowhere : (s : Standard) (xs : List Settled) (c : CellId) → length xs ≤ standard_spot s xs → IsSet xs s c → ⊥
 set_nowhere s [] c h w = w
 set_nowhere s (x ∷ xs) c h w =
     elim (standard_number x.standard == standard_number s) as (λ b. (standard_number x.standard == standard_number s) ≡ b → length (x ∷ xs) ≤ (if b then 0 else suc (standard_spot s xs)) → ⊥) [
@@ -114,8 +114,32 @@ last_put s c (x ∷ xs) h =
       | false ↦ λ l. let m : length xs ≤ standard_spot s xs = omega arith in ap (λ r. x ∷ r) (last_put s c xs m)
     ] h
 
-pub sets_here : (s : Standard) (c : CellId) (xs ys : List Settled) (d : Settled) → standard_spot s xs < length xs → ys ≡ slice_set xs (standard_spot s xs) (record { standard = (slice_index_or xs (standard_spot s xs) d).standard; cell = c }) → Sets s c xs ys
-sets_here s c xs ys d h e = rw (e, spot_put s c xs d h) (put_sets s c xs)
+sets_spot : (s : Standard) (c : CellId) (xs ys : List Settled) (d : Settled) → standard_spot s xs < length xs → ys ≡ slice_set xs (standard_spot s xs) (record { standard = (slice_index_or xs (standard_spot s xs) d).standard; cell = c }) → Sets s c xs ys
+sets_spot s c xs ys d h e = rw (e, spot_put s c xs d h) (put_sets s c xs)
 
-pub sets_last : (s : Standard) (c : CellId) (xs ys : List Settled) → length xs ≤ standard_spot s xs → ys ≡ xs ++ record { standard = s; cell = c } ∷ [] → Sets s c xs ys
-sets_last s c xs ys h e = rw (e, last_put s c xs h) (put_sets s c xs)
+-- ---- as the code finds it
+
+pub found_here : (s : Standard) (at n : ℕ) (read items : List Settled) (x : Settled) → at ≡ standard_spot s read → read ≡ items → x ≡ slice_index_or items at x → at < n → n ≡ length items → IsSet items s x.cell
+found_here s at n read items x q e a l m =
+    let p : at ≡ standard_spot s items = q ∙ ap (λ r. standard_spot s r) e in
+    let w : standard_spot s items < length items = omega arith in
+    subst (λ (y : Settled). IsSet items s y.cell) (sym (a ∙ ap (λ k. slice_index_or items k x) p)) (set_here s items x w)
+
+pub found_nowhere : (s : Standard) (at n : ℕ) (read items : List Settled) → at ≡ standard_spot s read → read ≡ items → n ≤ at → n ≡ length items → (c : CellId) → IsSet items s c → ⊥
+found_nowhere s at n read items q e l m c =
+    let p : at ≡ standard_spot s items = q ∙ ap (λ r. standard_spot s r) e in
+    let w : length items ≤ standard_spot s items = omega arith in
+    set_nowhere s items c w
+
+pub sets_here : (s : Standard) (c : CellId) (at n : ℕ) (read items : List Settled) (x : Settled) → at ≡ standard_spot s read → read ≡ items → x ≡ slice_index_or items at x → at < n → n ≡ length items → Sets s c items (slice_set items at (record { standard = x.standard; cell = c }))
+sets_here s c at n read items x q e a l m =
+    let p : at ≡ standard_spot s items = q ∙ ap (λ r. standard_spot s r) e in
+    let w : standard_spot s items < length items = omega arith in
+    sets_spot s c items (slice_set items at (record { standard = x.standard; cell = c })) x w
+      (ap (λ (y : Settled). slice_set items at (record { standard = y.standard; cell = c })) a ∙ ap (λ k. slice_set items k (record { standard = (slice_index_or items k x).standard; cell = c })) p)
+
+pub sets_last : (s : Standard) (c : CellId) (at n : ℕ) (read items new : List Settled) → at ≡ standard_spot s read → read ≡ items → n ≤ at → n ≡ length items → new ≡ items ++ record { standard = s; cell = c } ∷ [] → Sets s c items new
+sets_last s c at n read items new q e l m w =
+    let p : at ≡ standard_spot s items = q ∙ ap (λ r. standard_spot s r) e in
+    let h : length items ≤ standard_spot s items = omega arith in
+    rw (w, last_put s c items h) (put_sets s c items)
