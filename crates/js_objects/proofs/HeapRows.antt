@@ -1,5 +1,5 @@
 -- What one cell's change does to the heap.
-use Rattle.std.proofs.Common.{◌≡◌, ◌≢◌, ℕ, zero, suc, ◌<◌, ◌≤◌, List, [], ◌∷◌, ◌++◌, ◌-◌, refl, sym, ap, subst, ◌∙◌, length, arith, inl, inr, ◌⊎◌, Option, Some, None, Result, Ok, Err}
+use Rattle.std.proofs.Common.{◌≡◌, ◌≢◌, ℕ, zero, suc, ◌<◌, ◌≤◌, List, [], ◌∷◌, ◌++◌, ◌+◌, ◌-◌, refl, sym, ap, subst, ◌∙◌, length, arith, inl, inr, ◌⊎◌, Option, Some, None, Result, Ok, Err}
 use Rattle.std.specs.Prelude.{slice_get, slice_set, slice_index_or, if◌then◌else◌, true, false, Bool, ◌==◌, OnErr, OnOk, IfSome, IfNone, option_map, IsErrOf, ◌↔◌}
 use Rattle.std.proofs.lemmas.Option.{same_Some, slice_get_read, slice_get_within}
 use Rattle.door.specs.declared.values.Actor.{Actor}
@@ -309,9 +309,6 @@ standard_out h now i t v g c s = rw (← v, g) at s
 -- ---- the empty heap, and counts
 -- ---- the empty heap, and counts
 
-no_items : {A : Type 0} (p : ℕ) → slice_get {A} [] p ≡ None
-no_items p = refl
-
 pub empty_sound : (h : Store) → h.cells ≡ [] → h.owners ≡ [] → Sound h
 unfolding places count_of
 empty_sound h c o = record {
@@ -328,7 +325,7 @@ room_some h now i r e v s g q = let k : e.cells ≡ owned i h.cells = (rw g at (
 
 pub room_none : (h now : Store) (i : ℕ) → h ≡ now → Sound h → slice_get h.owners i ≡ None → h.limit ≡ now.limit - owned i now.cells
 unfolding count_of
-room_none h now i v s g = let k : 0 ≡ owned i h.cells = (rw g at (s.counted i)) in rw (← v, ← k) refl
+room_none h now i v s g = let k : 0 ≡ owned i h.cells = (rw g at (s.counted i)) in rw (← v) (omega arith)
 
 -- ---- names of a scope
 
@@ -377,9 +374,6 @@ place_out h now i p v s g n w = let a : None ≡ Some (Some (id n)) = rw g at (s
 not_both_ways : (b k : Bool) → b ≡ false → b ≡ k → k ≡ true → ⊥
 not_both_ways b k f q t = let e : false ≡ true = sym f ∙ (q ∙ t) in cc
 
-no_error : Ok {E = HeapFault} tt ≡ Err fault.Cycle → ⊥
-no_error e = cc
-
 pub proto_stays : (h now : Store) (n : ℕ) (x : Cell) (p : Option CellId) (b : Bool) → h ≡ now → Sound h → slice_get h.cells n ≡ Some x → IfSome p (λ q. q.0 < length now.cells) → b ≡ false → b ≡ comes_to (length now.cells) now.cells n p → Stays h n x (record x { proto = p })
 proto_stays h now n x p b v s e l f q = record {
   owner = refl;
@@ -388,8 +382,56 @@ proto_stays h now n x p b v s e l f q = record {
   ends = ends_set h.cells n x (record x { proto = p }) e (λ w. not_both_ways b (comes_to (length now.cells) now.cells n p) f q (true_closes now.cells n p (rw v at s.protos) (rw v at s.ends) l (rw v at w))) s.ends;
 }
 
-pub closed : (now : Store) (n : ℕ) (p : Option CellId) (b : Bool) → b ≡ true → b ≡ comes_to (length now.cells) now.cells n p → IsErrOf (Err {T = Unit {0}} fault.Cycle) fault.Cycle ↔ Closes now.cells n p
-closed now n p b t q = (λ w. closes_true now.cells n p (sym q ∙ t), λ w. refl)
+pub closed : {A : Type 0} (r : Result A HeapFault) (now : Store) (n : ℕ) (p : Option CellId) (b : Bool) → r ≡ Err fault.Cycle → b ≡ true → b ≡ comes_to (length now.cells) now.cells n p → IsErrOf r fault.Cycle ↔ Closes now.cells n p
+closed r now n p b e t q = (λ w. closes_true now.cells n p (sym q ∙ t), λ w. e)
 
-pub not_closed : (h now : Store) (n : ℕ) (p : Option CellId) (b : Bool) → h ≡ now → Sound h → IfSome p (λ q. q.0 < length now.cells) → b ≡ false → b ≡ comes_to (length now.cells) now.cells n p → IsErrOf (Ok {E = HeapFault} tt) fault.Cycle ↔ Closes now.cells n p
-not_closed h now n p b v s l f q = (λ w. absurd (no_error w), λ w. absurd (not_both_ways b (comes_to (length now.cells) now.cells n p) f q (true_closes now.cells n p (rw v at s.protos) (rw v at s.ends) l w)))
+no_error : {A : Type 0} (a : A) (r : Result A HeapFault) → r ≡ Ok a → r ≡ Err fault.Cycle → ⊥
+no_error a r e w = cc
+
+pub not_closed : {A : Type 0} (a : A) (r : Result A HeapFault) (h now : Store) (n : ℕ) (p : Option CellId) (b : Bool) → r ≡ Ok a → h ≡ now → Sound h → IfSome p (λ q. q.0 < length now.cells) → b ≡ false → b ≡ comes_to (length now.cells) now.cells n p → IsErrOf r fault.Cycle ↔ Closes now.cells n p
+not_closed a r h now n p b e v s l f q = (λ w. absurd (no_error a r e w), λ w. absurd (not_both_ways b (comes_to (length now.cells) now.cells n p) f q (true_closes now.cells n p (rw v at s.protos) (rw v at s.ends) l w)))
+
+-- ---- by what is answered
+
+pub by_result : {A E : Type 0} (r : Result A E) {P Q R : Type 0} → OnOk r P → OnErr r Q → (P → R) → (Q → R) → R
+by_result (Ok a) p q f g = f p
+by_result (Err e) p q f g = g q
+
+pub err_of : {A E : Type 0} (r : Result A E) {P : Type 0} → P → OnErr r P
+err_of (Ok a) p = tt
+err_of (Err e) p = p
+
+pub not_at_limit : (h now : Store) (x : Cell) (i : ℕ) → h ≡ now → Sound h → x.owner.0 ≡ i → (h.limit ≤ count_by (slice_get h.owners x.owner.0) → ⊥) → now.limit ≤ owned i now.cells → ⊥
+unfolding count_of
+not_at_limit h now x i v s e d l = d (rw (e, s.counted i) (rw (← v) at l))
+
+same_limit : {A B : Type 0} (f : HeapFault) (P Q : Type 0) → (P → Q) → AtLimit {A} (Err f) P → AtLimit {B} (Err f) Q
+same_limit fault.CellLimit P Q g l = g l
+same_limit fault.NoMemory P Q g l = tt
+same_limit fault.Cycle P Q g l = l
+same_limit fault.Sparse P Q g l = l
+same_limit fault.Kind P Q g l = l
+
+pub at_limit : {A B : Type 0} (r : Result A HeapFault) (q : Result B HeapFault) (f : HeapFault) (h now : Store) (x : Cell) (i : ℕ) → r ≡ Err f → q ≡ Err f → h ≡ now → Sound h → x.owner.0 ≡ i → AtLimit q (h.limit ≤ count_by (slice_get h.owners x.owner.0)) → AtLimit r (now.limit ≤ owned i now.cells)
+unfolding count_of
+at_limit r q f h now x i a b v s e l = rw a (same_limit f (h.limit ≤ count_by (slice_get h.owners x.owner.0)) (now.limit ≤ owned i now.cells) (λ w. rw (← v) (rw (e, s.counted i) at w)) (rw b at l))
+
+-- ---- a place is given, as the code goes
+
+no_place_of : (o : Option ℕ) → ((q : ℕ) → o ≢ Some q) → o ≡ None
+no_place_of None d = refl
+no_place_of (Some q) d = absurd (d q refl)
+
+pub given_all : (h k now : Store) (n p : ℕ) (a b x : Cell) → h ≡ now → Sound h → n < length now.cells → a ≡ slice_index_or h.cells n a → b ≡ slice_index_or h.cells n b → x ≡ slice_index_or h.cells n x → ((q : ℕ) → a.place ≢ Some q) → p ≡ length (places_by (slice_get h.owners b.owner.0)) → HasMorePlaces b.owner.0 (Some (id n) ∷ []) h.owners k.owners → k.cells ≡ slice_set h.cells n (record x { place = Some p }) → Sound k
+given_all h k now n p a b x v s l ea eb ex d t o c =
+    let e : slice_get h.cells n ≡ Some x = cell_here h now n x v l ex in
+    let sb : b ≡ x = same_Some b x (sym (cell_here h now n b v l eb) ∙ e) in
+    let sa : a ≡ x = same_Some a x (sym (cell_here h now n a v l ea) ∙ e) in
+    given_sound h k n p x (record x { place = Some p }) s e (no_place_of x.place (λ q w. d q (ap (λ (y : Cell). y.place) sa ∙ w))) refl refl refl c (rw sb at t) (rw sb at o)
+
+pub gives_all : (h k now : Store) (n p : ℕ) (a b x z : Cell) → h ≡ now → n < length now.cells → a ≡ slice_index_or h.cells n a → b ≡ slice_index_or h.cells n b → x ≡ slice_index_or h.cells n x → ((q : ℕ) → a.place ≢ Some q) → p ≡ length (places_by (slice_get h.owners b.owner.0)) → HasMorePlaces b.owner.0 (Some (id n) ∷ []) h.owners k.owners → k.cells ≡ slice_set h.cells n (record x { place = Some p }) → k.limit ≡ h.limit → slice_get now.cells n ≡ Some z → GivesPlace now k n p z z.place
+gives_all h k now n p a b x z v l ea eb ex d t o c m g =
+    let e : slice_get h.cells n ≡ Some x = cell_here h now n x v l ex in
+    let sb : b ≡ x = same_Some b x (sym (cell_here h now n b v l eb) ∙ e) in
+    let sa : a ≡ x = same_Some a x (sym (cell_here h now n a v l ea) ∙ e) in
+    given h now k n p x (record x { place = Some p }) z v e (no_place_of x.place (λ q w. d q (ap (λ (y : Cell). y.place) sa ∙ w))) refl c m (rw sb at t) (rw sb at o) g

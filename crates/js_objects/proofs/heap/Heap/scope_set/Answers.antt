@@ -9,4 +9,4 @@ pub invariant_of-self : goal.invariant_of-self
 invariant_of-self c = changed_sound _ _ _ _ _ c.self.invariant (cell_here _ _ _ _ c.self.view_is c.requires c.index_mut.ensures.value) refl refl (same_head _ _ _ _ c.self.invariant (cell_here _ _ _ _ c.self.view_is c.requires c.index_mut.ensures.value) refl refl refl)
 
 pub returns-clause-ok : goal.returns-clause-ok
-returns-clause-ok c = on_ok c.put.result (λ e. changed _ _ _ _ _ _ _ c.self.view_is (cell_here _ _ _ _ c.self.view_is c.requires c.index_mut.ensures.value) refl ((λ names. put_named names _ _ _ _ e), refl)) c.put.ensures.ok
+returns-clause-ok c = on_ok c.put.result (λ e. changed _ _ _ _ _ _ _ c.self.view_is (cell_here _ _ _ _ c.self.view_is c.requires c.index_mut.ensures.value) refl ((λ names. put_named names c.args.name.now c.args.value c.index_mut.result.now.bindings _ e), refl)) c.put.ensures.ok
