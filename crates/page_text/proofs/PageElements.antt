@@ -54,7 +54,8 @@ module _ (text : Bytes) (done : List Piece) (s : State) (i : IsState text done s
       let void : is_void tag ≡ true = rw read.same_name at h in
       let node : IsNodes (suc (length i.open_there)) number s.rest (Element tag all NoNodes NoNodes) t.rest = void_element {t = read.one} room_is read.spelled read.short void no_more in
       let ws = element_writes number (parent_in i.open_there) tag all in
-      let makes : map Build ws ++ (made_at_end tag all NoNodes ++ []) ≡ map Build ws = ap (λ l. map Build ws ++ (l ++ [])) (rw (void_no_script tag void) refl) ∙ append-nil (map Build ws) in
+      let ends : made_at_end tag all NoNodes ≡ [] = rw (void_no_script tag void) refl in
+      let makes : map Build ws ++ (made_at_end tag all NoNodes ++ []) ≡ map Build ws = ap (λ l. map Build ws ++ (l ++ [])) ends ∙ append-nil (map Build ws) in
       let g = grow_element text s.rest t.rest s.begun i.open_there i.nodes tag all NoNodes i.reached may node in
       state_grown text done s (made s t) i 1 ws i.open_there (grown_as text true i.nodes 1 _ (map Build ws) i.open_there t.rest makes g) i.same_open refl writes_are refl
 

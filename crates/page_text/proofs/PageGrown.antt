@@ -1,5 +1,5 @@
 -- The nodes so far, with more behind them, an element begun there, or the innermost one ended.
-use Rattle.std.proofs.Common.{◌≡◌, ℕ, suc, ◌+◌, ◌≤◌, Bool, true, false, cond, not, Option, Some, List, [], ◌∷◌, ◌++◌, length, map, refl, ap, sym, ◌∙◌, arith, append_assoc, append-nil, codes}
+use Rattle.std.proofs.Common.{◌≡◌, ℕ, suc, ◌+◌, ◌≤◌, Bool, true, false, cond, not, Option, Some, List, [], ◌∷◌, ◌++◌, length, map, refl, ap, sym, ◌∙◌, subst, arith, append_assoc, append-nil, codes}
 use Rattle.std.specs.Prelude.{◌||◌, is_some}
 use Rattle.std.proofs.lemmas.Bool.{or_parts}
 use Rattle.door.specs.declared.values.Kind.TheVariants as kind
@@ -17,11 +17,11 @@ use Rattle.page_text.proofs.PageJoined.{count_joined, nodes_joined}
 -- ---- what is made
 
 -- the parent of the next node
-pub parent_in : List Opening → Thing
+abbrev pub parent_in : List Opening → Thing
 parent_in [] = the_document
 parent_in (o ∷ outer) = thing_of kind.Element o.number
 
-made_moved : (parent : Thing) (m n : ℕ) (xs : Nodes) → m ≡ n → made_of parent m xs ≡ made_of parent n xs
+pub made_moved : (parent : Thing) (m n : ℕ) (xs : Nodes) → m ≡ n → made_of parent m xs ≡ made_of parent n xs
 made_moved parent m n xs e = ap (λ k. made_of parent k xs) e
 
 four : (w i e b y : List Made) → w ++ (i ++ (e ++ (b ++ y))) ≡ (w ++ (i ++ (e ++ b))) ++ y
@@ -120,13 +120,16 @@ grow outer open_there number text mid _ (deeper {at = at} {inside = inside} {t =
 open_here : (outer : List Opening) (number m : ℕ) (text mid inside : Bytes) (nodes : Nodes) (t : StartTag) → number + count nodes ≡ m → IsNodes (suc (length outer)) number text nodes mid
     → Opens (suc (length outer)) m mid t inside
     → Grown outer number text nodes 1 (map Build (element_writes m (parent_in outer) (tag_of t) (attributes_of t))) (opening m mid t ∷ outer) inside
-open_here outer number m text mid inside nodes t e is opens = rw (← e) (record {
-  all = joined nodes (begun t NoNodes);
-  inside = deeper is (rw (← e) at opens) (here no_more);
-  counted = count_joined nodes (begun t NoNodes);
-  made = made_begun (parent_in outer) number (number + count nodes) nodes t NoNodes refl opens.normal
-      ∙ ap (λ l. made_of (parent_in outer) number nodes ++ l) (append-nil (map Build (element_writes (number + count nodes) (parent_in outer) (tag_of t) (attributes_of t))));
-})
+open_here outer number m text mid inside nodes t e is opens =
+    subst (λ k. Opens (suc (length outer)) k mid t inside
+    → Grown outer number text nodes 1 (map Build (element_writes k (parent_in outer) (tag_of t) (attributes_of t))) (opening k mid t ∷ outer) inside) e
+    (λ begins. record {
+      all = joined nodes (begun t NoNodes);
+      inside = deeper is begins (here no_more);
+      counted = count_joined nodes (begun t NoNodes);
+      made = made_begun (parent_in outer) number (number + count nodes) nodes t NoNodes refl begins.normal
+          ∙ ap (λ l. made_of (parent_in outer) number nodes ++ l) (append-nil (map Build (element_writes (number + count nodes) (parent_in outer) (tag_of t) (attributes_of t))));
+    }) opens
 
 pub open_in : (outer open_there : List Opening) (number : ℕ) (text mid : Bytes) (nodes : Nodes) → IsInside outer number text nodes open_there mid → (m : ℕ) (t : StartTag) (inside : Bytes)
     → m ≡ number + count nodes → Opens (suc (length open_there)) m mid t inside
@@ -147,13 +150,16 @@ pub ended_in : (depth number : ℕ) (text inside mid rest : Bytes) (t : StartTag
     → IsEndTag mid t.name rest → IsNodes depth number text (begun t nodes) rest
 ended_in depth number text inside mid rest t nodes opens is end = normal_element {t = t} opens.room opens.tag opens.short opens.normal is end no_more
 
-pub close_in : (outer open_there : List Opening) (o : Opening) (number : ℕ) (text mid rest : Bytes) (nodes : Nodes) → IsInside outer number text nodes (o ∷ open_there) mid
-    → length outer ≤ length open_there → IsEndTag mid o.name rest → IsInside outer number text nodes open_there rest
-close_in _ open_there o number text mid rest nodes (here is) small end = absurd (omega (arith, small))
-close_in outer _ _ number text mid rest _ (deeper {at = at} {inside = inside} {t = t} {before = before} is opens (here {nodes = nodes} within)) small end =
+-- behind an element with others open inside it, the innermost of which ends
+pub close_deep : (outer : List Opening) (number : ℕ) (text at inside mid rest : Bytes) (before nodes : Nodes) (t : StartTag) → IsNodes (suc (length outer)) number text before at
+    → Opens (suc (length outer)) (number + count before) at t inside → (first o : Opening) (open_there : List Opening) (n : ℕ) → first ≡ opening (number + count before) at t
+    → n ≡ suc (number + count before) → IsInside (first ∷ outer) n inside nodes (o ∷ open_there) mid → IsEndTag mid o.name rest
+    → IsInside outer number text (joined before (begun t nodes)) open_there rest
+close_deep outer number text at inside mid rest before nodes t is opens first _ _ n e f (here within) end =
     here (nodes_joined (suc (length outer)) number text at before is (number + count before) rest (begun t nodes) refl
-    (ended_in (suc (length outer)) (number + count before) at inside mid rest t nodes opens within end))
-close_in outer open_there o number text mid rest _ (deeper {at = at} {inside = inside} {t = t} {before = before} is opens (deeper {at = a} {inside = i} {t = u} {before = b} {nodes = nodes} first begins deep)) small end =
-    let m = number + count before in
-    let long = inside_length (opening (suc m + count b) a u ∷ (opening m at t ∷ outer)) (o ∷ open_there) (suc (suc m + count b)) i mid nodes deep in
-    deeper is opens (close_in (opening m at t ∷ outer) open_there o (suc m) inside mid rest (joined b (begun u nodes)) (deeper first begins deep) (omega (arith, long)) end)
+    (ended_in (suc (length outer)) (number + count before) at inside mid rest t nodes opens (subst (λ k. IsNodes (suc (suc (length outer))) k inside nodes mid) f within)
+    (subst (λ (o : Opening). IsEndTag mid o.name rest) e end)))
+close_deep outer number text at inside mid rest before _ t is opens first o open_there n e f (deeper {at = a} {inside = i} {t = u} {before = b} {nodes = nodes} early begins deep) end =
+    deeper is opens (subst (λ g. IsInside (g ∷ outer) (suc (number + count before)) inside (joined b (begun u nodes)) open_there rest) e
+    (subst (λ k. IsInside (first ∷ outer) k inside (joined b (begun u nodes)) open_there rest) f
+    (close_deep (first ∷ outer) n inside a i mid rest b nodes u early begins (opening (n + count b) a u) o open_there (suc (n + count b)) refl refl deep end)))

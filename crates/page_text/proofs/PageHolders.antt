@@ -43,7 +43,7 @@ named_word : (word tag : List ℕ) → is_named word tag ≡ true → encode_utf
 named_word word tag h = (bytes_eq-Decides (encode_utf8_all tag) word).0 h
 
 -- whether entities are read
-pub reads_entities : Raw → Bool
+abbrev pub reads_entities : Raw → Bool
 reads_entities Script = false
 reads_entities Style = false
 reads_entities Title = true
@@ -59,7 +59,6 @@ some_raw a b h = cc
 
 holder_at : (tag : List ℕ) (raw : Raw) (a b c d : Bool) → is_named (codes "script") tag ≡ a → is_named (codes "style") tag ≡ b → is_named (codes "title") tag ≡ c
     → is_named (codes "textarea") tag ≡ d → cond a (Some Script) (cond b (Some Style) (cond c (Some Title) (cond d (Some Textarea) None))) ≡ Some raw → IsHolder tag raw
-unfolding reads_entities
 holder_at tag raw true b c d e f g i h = rw (sym (some_raw Script raw h)) (record { holds = rw e refl; named = named_word (codes "script") tag e })
 holder_at tag raw false true c d e f g i h = rw (sym (some_raw Style raw h)) (record { holds = rw (e, f) refl; named = named_word (codes "style") tag f })
 holder_at tag raw false false true d e f g i h = rw (sym (some_raw Title raw h)) (record { holds = rw (e, f, g) refl; named = named_word (codes "title") tag g })

@@ -1,5 +1,5 @@
 -- The nodes so far of a page, with more behind them, an element begun there, or the innermost one ended.
-use Rattle.std.proofs.Common.{◌≡◌, ℕ, suc, ◌+◌, ◌≤◌, Bool, true, false, not, List, [], ◌∷◌, ◌++◌, length, map, refl, ap, sym, ◌∙◌, arith, append_assoc, append-nil}
+use Rattle.std.proofs.Common.{◌≡◌, ℕ, suc, ◌+◌, ◌≤◌, Bool, true, false, not, List, [], ◌∷◌, ◌++◌, length, map, refl, ap, sym, ◌∙◌, subst, arith, append_assoc, append-nil}
 use Rattle.std.specs.Prelude.{◌&&◌}
 use Rattle.page_text.specs.Bytes.{Bytes}
 use Rattle.page_text.specs.Nodes.{the_document, element_writes}
@@ -8,7 +8,7 @@ use Rattle.page_text.specs.PageNodes.{Nodes, NoNodes, count, joined, Made, Build
 use Rattle.page_text.specs.PageGrammar.{IsNodes, no_more, IsTop, top_end, white_space, top_comment, top_doctype, top_element}
 use Rattle.page_text.specs.PageOpen.{Opening, Opens, opening, begun, IsInside, here, deeper, IsOpenAt, at_top, in_element, is_top, may_begin}
 use Rattle.page_text.proofs.PageJoined.{count_joined}
-use Rattle.page_text.proofs.PageGrown.{parent_in, made_moved, made_joined, made_begun, Grown, grow, open_in, inside_length, ended_in, close_in}
+use Rattle.page_text.proofs.PageGrown.{parent_in, made_moved, made_joined, made_begun, Grown, grow, open_in, ended_in, close_deep}
 
 -- ---- the top
 
@@ -92,13 +92,19 @@ open_at text mid inside _ open_there _ t (in_element {before = before} {nodes = 
     (open_in (opening m at u ∷ []) open_there (suc m) within mid nodes deep _ t inside (omega (arith, count_joined before (begun u nodes))) opens)
 
 -- the innermost element ends
+close_top : (text at inside mid rest : Bytes) (before nodes : Nodes) (t : StartTag) → IsTop false 1 text before false at → Opens 1 (suc (count before)) at t inside
+    → (first o : Opening) (open_there : List Opening) (n : ℕ) → first ≡ opening (suc (count before)) at t → n ≡ suc (suc (count before))
+    → IsInside (first ∷ []) n inside nodes (o ∷ open_there) mid → IsEndTag mid o.name rest → IsOpenAt text true open_there (joined before (begun t nodes)) rest
+close_top text at inside mid rest before nodes t is opens first _ _ n e f (here within) end =
+    at_top (top_joined false 1 text at before false is (suc (count before)) (begun t nodes) true rest (omega arith)
+    (top_element (ended_in 1 (suc (count before)) at inside mid rest t nodes opens (subst (λ k. IsNodes 2 k inside nodes mid) f within)
+    (subst (λ (o : Opening). IsEndTag mid o.name rest) e end)) top_end))
+close_top text at inside mid rest before _ t is opens first o open_there n e f (deeper {at = a} {inside = i} {t = u} {before = b} {nodes = nodes} early begins deep) end =
+    in_element is opens (subst (λ g. IsInside (g ∷ []) (suc (suc (count before))) inside (joined b (begun u nodes)) open_there rest) e
+    (subst (λ k. IsInside (first ∷ []) k inside (joined b (begun u nodes)) open_there rest) f
+    (close_deep (first ∷ []) n inside a i mid rest b nodes u early begins (opening (n + count b) a u) o open_there (suc (n + count b)) refl refl deep end)))
+
 pub close_at : (text mid rest : Bytes) (h : Bool) (o : Opening) (open_there : List Opening) (nodes : Nodes) → IsOpenAt text h (o ∷ open_there) nodes mid → IsEndTag mid o.name rest
     → IsOpenAt text h open_there nodes rest
-close_at text mid rest _ _ _ _ (in_element {before = before} {at = at} {inside = inside} {t = t} is opens (here {nodes = nodes} within)) end =
-    let m = suc (count before) in
-    at_top (top_joined false 1 text at before false is m (begun t nodes) true rest (omega arith)
-    (top_element (ended_in 1 m at inside mid rest t nodes opens within end) top_end))
-close_at text mid rest _ o open_there _ (in_element {before = before} {at = at} {inside = inside} {t = t} is opens (deeper {at = a} {inside = i} {t = u} {before = b} {nodes = nodes} first begins deep)) end =
-    let m = suc (count before) in
-    let long = inside_length (opening (suc m + count b) a u ∷ (opening m at t ∷ [])) (o ∷ open_there) (suc (suc m + count b)) i mid nodes deep in
-    in_element is opens (close_in (opening m at t ∷ []) open_there o (suc m) inside mid rest (joined b (begun u nodes)) (deeper first begins deep) (omega (arith, long)) end)
+close_at text mid rest _ o open_there _ (in_element {before = before} {nodes = nodes} {at = at} {inside = inside} {t = t} is opens deep) end =
+    close_top text at inside mid rest before nodes t is opens (opening (suc (count before)) at t) o open_there (suc (suc (count before))) refl refl deep end

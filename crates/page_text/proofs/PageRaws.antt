@@ -42,7 +42,6 @@ use Rattle.page_text.proofs.PageSteps.{grow_element}
 -- ---- what is inside
 
 raw_read : (raw : Raw) (content : Bytes) → IsRead (reads_entities raw) content (read_raw raw content)
-unfolding reads_entities
 raw_read kinds.Script content = as_it_stands (line_ends_here content)
 raw_read kinds.Style content = as_it_stands (line_ends_here content)
 raw_read kinds.Title content = value_here content
@@ -308,5 +307,5 @@ module _ (text : Bytes) (done : List Piece) (s : State) (i : IsState text done s
       let is = inside_read raw s.next (length s.open_elements) (suc (suc (length i.open_there))) (suc (suc (count i.nodes))) s.rest t.rest b.0
           (omega (arith, depth_is text done s i)) (omega (arith, i.next)) b.1 in
       let x = node b.0 (c.0).0 (c.0).1 is c.1 in
-      rw (sym (ok_same _ _ c.2), read.same_attributes)
-      (ended_kept text done (filled s.next (made s t) (is_empty content) b.0 (c.0).1) raw (attributes_of read.one) b.0 (is_filled (is_empty content) b.0 (c.0).1 is.same x))
+      subst (Went text done) (ok_same _ _ c.2) (subst (λ all. Went text done (closed_raw raw (filled s.next (made s t) (is_empty content) b.0 (c.0).1) all b.0)) (sym read.same_attributes)
+      (ended_kept text done (filled s.next (made s t) (is_empty content) b.0 (c.0).1) raw (attributes_of read.one) b.0 (is_filled (is_empty content) b.0 (c.0).1 is.same x)))

@@ -115,6 +115,10 @@ markup_same (b ∷ bs) = refl
 pub markup_here : (text : Bytes) → UpTo begins_markup text (before (stops AtMarkup) text) (from (stops AtMarkup) text)
 markup_here text = up_to_before (stops AtMarkup) begins_markup markup_same text
 
+and_true : (v : Bool) → (v && true) ≡ v
+and_true true = refl
+and_true false = refl
+
 no_front : (v w : Bool) → ((v && false) && w) ≡ false
 no_front true w = refl
 no_front false w = refl
@@ -122,7 +126,7 @@ no_front false w = refl
 pub end_of_same : (raw : Raw) (text : Bytes) → stops (AtEndOf raw) text ≡ begins_end_of (raw_name raw) text
 end_of_same raw [] = refl
 end_of_same raw (b ∷ []) = no_front (to_ascii_lowercase b == 60) _
-end_of_same raw (b ∷ (c ∷ bs)) = rw (same_mark b 60 (omega arith), same_mark c 47 (omega arith)) refl
+end_of_same raw (b ∷ (c ∷ bs)) = rw (same_mark b 60 (omega arith), same_mark c 47 (omega arith), and_true (c == 47)) refl
 
 pub end_of_here : (raw : Raw) (text : Bytes) → UpTo (begins_end_of (raw_name raw)) text (before (stops (AtEndOf raw)) text) (from (stops (AtEndOf raw)) text)
 end_of_here raw text = up_to_before (stops (AtEndOf raw)) (begins_end_of (raw_name raw)) (end_of_same raw) text

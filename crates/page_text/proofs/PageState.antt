@@ -19,7 +19,7 @@ use Rattle.page_text.specs.PageFaults.{HasNoRoom, too_many, too_deep}
 use Rattle.page_text.proofs.PageGrown.{parent_in}
 use Rattle.page_text.proofs.PageOpened.{GrownAt}
 use Rattle.page_text.proofs.PageCuts.{builds_behind}
-use Rattle.page_text.proofs.PageTagsRead.{err_ok}
+use Rattle.page_text.proofs.PageTagsRead.{err_ok, err_same}
 
 -- ---- the open elements
 
@@ -50,14 +50,13 @@ listed_length [] = refl
 listed_length (o ∷ others) = omega (arith, length-append (listed others) (open_as o ∷ []), listed_length others)
 
 top_at : (n : ℕ) → (suc n == 0) ≡ false
-top_at n = refl
+top_at n = grind (arith, nat_tests)
 
 pub top_listed : (os : List Opening) → (length (listed os) == 0) ≡ is_top os
 top_listed [] = refl
 top_listed (o ∷ others) = ap (λ n. n == 0) (listed_length (o ∷ others)) ∙ top_at (length others)
 
 pub parent_listed : (os : List Opening) → parent_of (innermost (listed os)) ≡ parent_in os
-unfolding parent_in
 parent_listed [] = refl
 parent_listed (o ∷ others) = ap parent_of (innermost_listed o others)
 
@@ -77,9 +76,6 @@ room_ok next depth text h = room_ok_at next depth text (nat_le NODE_LIMIT next) 
 pub record IsNoRoom (next depth : ℕ) (text : Bytes) (e : PageKind × Bytes) : Type 0 where
   pub none : HasNoRoom (suc depth) next e.0
   pub place : text ≡ e.1
-
-pub err_same : {A : Type 0} (e f : PageKind × Bytes) → ◌≡◌ {A = Outcome A} (Err e) (Err f) → e ≡ f
-err_same e f h = cc
 
 room_err_at : (next depth : ℕ) (text : Bytes) (fault : PageKind × Bytes) (v w : Bool) → nat_le NODE_LIMIT next ≡ v → nat_le DEPTH_LIMIT depth ≡ w
     → ◌≡◌ {A = Outcome (Unit {0})} (cond v (Err (TooLong, text)) (cond w (Err (TooDeep, text)) (Ok tt))) (Err fault) → IsNoRoom next depth text fault

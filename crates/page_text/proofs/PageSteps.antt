@@ -6,6 +6,7 @@ use Rattle.std.proofs.lemmas.Bool.{and_parts}
 use Rattle.std.proofs.lemmas.Slice.Eq.{bytes_eq-Decides}
 use Rattle.dom_semantics.specs.Whitespace.{is_white_space}
 use Rattle.door.specs.declared.requests.Request.{Request}
+use Rattle.door.specs.declared.values.Thing.{Thing}
 use Rattle.page_text.specs.declared.faults.PageKind.{PageKind}
 use Rattle.page_text.specs.declared.faults.PageKind.TheVariants.{WrongEnd}
 use Rattle.page_text.specs.declared.pieces.Piece.{Piece}
@@ -40,6 +41,12 @@ pub grown_as : (text : Bytes) (h : Bool) (nodes : Nodes) (added : ℕ) (makes ot
     → GrownAt text h nodes added makes open_then rest → GrownAt text h nodes added others open_then rest
 grown_as text h nodes added makes others open_then rest e g = rw (← e) g
 
+same_text : (ws : List Request) (a b : ℕ) (p q : Thing) (x y : List ℕ) → a ≡ b → p ≡ q → x ≡ y → ws ++ text_writes a p x ≡ ws ++ text_writes b q y
+same_text ws a b p q x y e f g = rw (e, f, g) refl
+
+same_comment : (ws : List Request) (a b : ℕ) (p q : Thing) (x y : List ℕ) → a ≡ b → p ≡ q → x ≡ y → ws ++ comment_writes a p x ≡ ws ++ comment_writes b q y
+same_comment ws a b p q x y e f g = rw (e, f, g) refl
+
 -- ---- a run of text
 
 -- some text stands before the next markup
@@ -61,9 +68,9 @@ module _ (text : Bytes) (done : List Piece) (s : State) (i : IsState text done s
       let g = grow_at text s.rest behind s.begun i.open_there i.nodes (Text (chars (read_value raw)) NoNodes) i.reached inner is in
       let ws = text_writes n (parent_in i.open_there) (chars (read_value raw)) in
       let same = grown_as text s.begun i.nodes 1 _ (map Build ws) i.open_there behind (append-nil (map Build ws)) g in
-      rw (sym (ok_same _ _ c.2))
+      subst (IsState text done) (ok_same _ _ c.2)
       (state_grown text done s (record s { rest = behind; next = s.next + 1; writes = s.writes ++ text_writes s.next (parent s) c.0 }) i 1 ws i.open_there same i.same_open refl
-      (rw (i.next, parent_is text done s i, d.1) refl) refl)
+      (same_text s.writes s.next n (parent s) (parent_in i.open_there) c.0 (chars (read_value raw)) i.next (parent_is text done s i) d.1) refl)
 
 -- ---- places at the top and inside an element
 
@@ -80,7 +87,6 @@ never_top outer (o ∷ others) number text rest nodes is = refl
 grow_comment : (text mid rest : Bytes) (h : Bool) (os : List Opening) (nodes : Nodes) (shown : List ℕ) → IsOpenAt text h os nodes mid
     → IsNodes (suc (length os)) (suc (count nodes)) mid (Comment shown NoNodes) rest
     → GrownAt text h nodes 1 (made_of (parent_in os) (suc (count nodes)) (Comment shown NoNodes)) os rest
-unfolding parent_in
 grow_comment text mid rest h _ nodes shown (at_top is) node = grow_at_top text mid rest h h nodes (Comment shown NoNodes) is (top_comment node top_end)
 grow_comment text mid rest _ os _ shown (in_element {before = before} {nodes = nodes} {at = at} {inside = inside} {t = t} is opens deep) node =
     grow_at text mid rest true os (joined before (begun t nodes)) (Comment shown NoNodes) (in_element is opens deep)
@@ -96,16 +102,15 @@ grow_space text mid rest gap _ os _ (in_element {before = before} {nodes = nodes
 -- a doctype before the element
 grow_doctype : (text mid rest : Bytes) (h : Bool) (os : List Opening) (nodes : Nodes) → IsOpenAt text h os nodes mid → may_declare h os ≡ true → IsDoctype mid rest
     → GrownAt text h nodes 0 [] os rest
-grow_doctype text mid rest true _ nodes (at_top is) may doctype = absurd (not_both (sym may))
-grow_doctype text mid rest false _ nodes (at_top is) may doctype = grow_at_top text mid rest false false nodes NoNodes is (top_doctype doctype top_end)
-grow_doctype text mid rest _ os _ (in_element {before = before} {nodes = nodes} {at = at} {inside = inside} {t = t} is opens deep) may doctype =
+grow_doctype text mid rest true _ nodes (at_top is) may declared = absurd (not_both (sym may))
+grow_doctype text mid rest false _ nodes (at_top is) may declared = grow_at_top text mid rest false false nodes NoNodes is (top_doctype declared top_end)
+grow_doctype text mid rest _ os _ (in_element {before = before} {nodes = nodes} {at = at} {inside = inside} {t = t} is opens deep) may declared =
     absurd (not_both (sym may ∙ ap (λ v. v && false) (never_top (opening (suc (count before)) at t) os (suc (suc (count before))) inside mid nodes deep)))
 
 -- an element that is whole
 pub grow_element : (text mid rest : Bytes) (h : Bool) (os : List Opening) (nodes : Nodes) (tag : List ℕ) (all : List Attribute) (within : Nodes) → IsOpenAt text h os nodes mid
     → may_begin h os ≡ true → IsNodes (suc (length os)) (suc (count nodes)) mid (Element tag all within NoNodes) rest
     → GrownAt text true nodes (suc (count within + 0)) (made_of (parent_in os) (suc (count nodes)) (Element tag all within NoNodes)) os rest
-unfolding parent_in
 grow_element text mid rest true _ nodes tag all within (at_top is) may node = absurd (not_both (sym may))
 grow_element text mid rest false _ nodes tag all within (at_top is) may node = grow_at_top text mid rest false true nodes (Element tag all within NoNodes) is (top_element node top_end)
 grow_element text mid rest _ os _ tag all within (in_element {before = before} {nodes = nodes} {at = at} {inside = inside} {t = t} is opens deep) may node =
@@ -132,23 +137,23 @@ module _ (text : Bytes) (done : List Piece) (s : State) (i : IsState text done s
       let g = grow_comment text s.rest (c.0).1 s.begun i.open_there i.nodes (chars read.content) i.reached node in
       let ws = comment_writes n (parent_in i.open_there) (chars read.content) in
       let same = grown_as text s.begun i.nodes 1 _ (map Build ws) i.open_there (c.0).1 (append-nil (map Build ws)) g in
-      rw (sym (ok_same _ _ c.2))
+      subst (IsState text done) (ok_same _ _ c.2)
       (state_grown text done s (record s { rest = (c.0).1; next = s.next + 1; writes = s.writes ++ comment_writes s.next (parent s) (c.0).0 }) i 1 ws i.open_there same i.same_open refl
-      (rw (i.next, parent_is text done s i, read.same) refl) refl)
+      (same_comment s.writes s.next n (parent s) (parent_in i.open_there) (c.0).0 (chars read.content) i.next (parent_is text done s i) read.same) refl)
 
   pub doctype_kept : (t : State) → begins_doctype s.rest ≡ true → may_declare s.begun i.open_there ≡ true → m.doctype_step s ≡ Ok t → IsState text done t
   unfolding m.doctype_step
   doctype_kept t front may h =
       let b = bind_ok (doctype_at s.rest) (λ rest. Ok (record s { rest = rest })) t h in
       let g = grow_doctype text s.rest b.0 s.begun i.open_there i.nodes i.reached may (doctype_ok s.rest b.0 front b.1) in
-      rw (sym (ok_same _ _ b.2)) (state_grown text done s (record s { rest = b.0 }) i 0 [] i.open_there g i.same_open (omega arith) (sym (append-nil s.writes)) refl)
+      subst (IsState text done) (ok_same _ _ b.2) (state_grown text done s (record s { rest = b.0 }) i 0 [] i.open_there g i.same_open (omega arith) (sym (append-nil s.writes)) refl)
 
   ended_at : (o : Opening) (others : List Opening) (t : State) (name rest : Bytes) (v : Bool) → bytes_eq o.name name ≡ v → IsOpenAt text s.begun (o ∷ others) i.nodes s.rest
       → s.open_elements ≡ listed (o ∷ others) → IsEndTag s.rest name rest
       → ◌≡◌ {A = Outcome State} (cond v (Ok (record s { rest = rest; open_elements = outer s.open_elements })) (Err (WrongEnd, s.rest))) (Ok t) → IsState text done t
   ended_at o others t name rest true e reached same is h =
       let named : IsEndTag s.rest o.name rest = rw ((bytes_eq-Decides o.name name).0 e) is in
-      rw (sym (ok_same _ _ h))
+      subst (IsState text done) (ok_same _ _ h)
       (state_moved text done s (record s { rest = rest; open_elements = outer s.open_elements }) i others (close_at text s.rest rest s.begun o others i.nodes reached named)
       (ap outer same ∙ outer_listed o others) refl refl refl)
   ended_at o others t name rest false e reached same is h = err_ok _ _ h

@@ -47,7 +47,7 @@ slash_ok : (start text : Bytes) (o : Option Attribute) (rest : Bytes) → t.slas
 unfolding t.slash_at
 slash_ok start text o rest h = slash_ok_at start text o rest (sees 62 text) (is_empty text) refl h
 
-gap_some : (text : Bytes) → begins is_white_space text ≡ true → 0 < length (before (stops AfterSpace) text)
+pub gap_some : (text : Bytes) → begins is_white_space text ≡ true → 0 < length (before (stops AfterSpace) text)
 unfolding before
 gap_some [] h = absurd (cc)
 gap_some (b ∷ bs) h = rw h (omega arith)

@@ -34,6 +34,9 @@ err_ok e a h = absurd (cc)
 pub ok_same : {A : Type 0} (x y : A) → ◌≡◌ {A = Outcome A} (Ok x) (Ok y) → x ≡ y
 ok_same x y h = cc
 
+pub err_same : {A : Type 0} (e f : PageKind × Bytes) → ◌≡◌ {A = Outcome A} (Err e) (Err f) → e ≡ f
+err_same e f h = cc
+
 pub pair_same : {A B : Type 0} (a b : A) (x y : B) → ◌≡◌ {A = Outcome (A × B)} (Ok (a, x)) (Ok (b, y)) → (a ≡ b) × (x ≡ y)
 pair_same {A = A} {B = B} a b x y h = let e = ok_same (a, x) (b, y) h in (ap (λ (p : A × B). p.0) e, ap (λ (p : A × B). p.1) e)
 
