@@ -33,7 +33,7 @@ pub record Keeps (x y : Bytes) : Type 0 where
 
 -- ---- values
 
-quote_no_space : (q : ℕ) → is_quote q ≡ true → is_white_space q ≡ false
+pub quote_no_space : (q : ℕ) → is_quote q ≡ true → is_white_space q ≡ false
 quote_no_space q h = grind (arith, nat_tests)
 
 plain_no_space : (b : ℕ) → is_unquoted b ≡ true → is_white_space b ≡ false
@@ -89,7 +89,7 @@ equals_moved after at (equals {before = gap} {behind = behind} {more = more} spa
 
 -- ---- attributes
 
-attribute_byte_in : (raw y : Bytes) → AreAll is_attribute_byte raw → 0 < length raw → begins is_attribute_byte (raw ++ y) ≡ true
+pub attribute_byte_in : (raw y : Bytes) → AreAll is_attribute_byte raw → 0 < length raw → begins is_attribute_byte (raw ++ y) ≡ true
 attribute_byte_in [] y all some = absurd (omega (arith, some))
 attribute_byte_in (b ∷ raw) y all some = all.0
 
@@ -143,7 +143,7 @@ no_sign : (text : Bytes) → begins is_attribute_byte text ≡ true → sees 61 
 no_sign [] h = refl
 no_sign (b ∷ bs) h = sign_no_attribute b (b == 61) refl h
 
-no_space_first : (text : Bytes) → begins is_attribute_byte text ≡ true → begins is_white_space text ≡ false
+pub no_space_first : (text : Bytes) → begins is_attribute_byte text ≡ true → begins is_white_space text ≡ false
 no_space_first [] h = refl
 no_space_first (b ∷ bs) h = attribute_no_space b h
   where

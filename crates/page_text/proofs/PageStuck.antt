@@ -53,7 +53,7 @@ none_there raw here rest (unquoted n run some) = empty_run raw rest run.whole so
     empty_run [] ys e h = absurd (omega (arith, h))
     empty_run (b ∷ xs) ys e h = absurd (cc)
 
-close_there : (x raw here rest : Bytes) → IsValue (62 ∷ x) raw here rest → ⊥
+pub close_there : (x raw here rest : Bytes) → IsValue (62 ∷ x) raw here rest → ⊥
 close_there x raw here rest (quoted {quote = q} mark e f all) = not_both (sym mark ∙ ap is_quote (sym (same_head 62 q x here e)))
 close_there x raw here rest (unquoted n run some) = closed_run raw run.whole run.all some
   where
@@ -100,7 +100,7 @@ no_one mid gap here at behind place a space blank some is =
     (ap (begins is_attribute_byte) (same.1 ∙ moved.whole) ∙ moved.first behind, omega (arith, some, ap length same.0))
 
 -- the value of an attribute that begins there
-value_then : (mid gap here raw after at place there behind : Bytes) (a : ReadAttribute) → Named mid gap here raw after at → Space mid place there → IsAttribute there a behind
+pub value_then : (mid gap here raw after at place there behind : Bytes) (a : ReadAttribute) → Named mid gap here raw after at → Space mid place there → IsAttribute there a behind
     → (x : Bytes) × (h : Bytes) × IsValue at x h behind
 value_then mid gap here raw after at place there behind _ n blank (bare {raw = r} {gap = g} {behind = b} run some space absent) =
     let same = run_same is_white_space mid mid gap here place there refl n.space blank in
@@ -125,7 +125,7 @@ value_long mid gap here raw after at place there other n blank (long_value {raw 
 -- ---- what is too long
 
 -- it comes no sooner than what is told
-abbrev NoSooner : PageKind → Bytes → Bytes → Type 0
+abbrev pub NoSooner : PageKind → Bytes → Bytes → Type 0
 NoSooner kind place other = (kind ≡ TooLong) × (length other ≤ length place)
 
 blocked : (b : ℕ) (gap x : Bytes) → (gap ≡ []) ⊎ (is_attribute_byte b ≡ false) → (begins is_attribute_byte (b ∷ x) ≡ true) × (0 < length gap) → ⊥
