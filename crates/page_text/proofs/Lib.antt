@@ -32,6 +32,4 @@ pub mod PageValues
 pub mod PrintedParts
 pub mod Reading
 pub mod Scanning
-pub mod Spelling
-pub mod TagSpelling
 pub mod Wholes

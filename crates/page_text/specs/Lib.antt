@@ -1,6 +1,5 @@
 pub mod Around
 pub mod Bytes
-pub mod Grammar
 pub mod Nodes
 pub mod Outcomes
 pub mod Page

@@ -52,6 +52,8 @@ fn limits_of_depth(rt: HostRuntime) -> Result<(), Fail> {
         ("", "<a>", 256, "</b>", "WrongEnd 768"),
         ("", "<a>", 256, "", "Unclosed 765"),
         ("", "<a>", 255, "<script>b</script>", "TooDeep 773"),
+        ("", "<a>", 255, "<script>b", "TooDeep 773"),
+        ("", "<a>", 255, "<script>", "Unclosed 765"),
         ("", "<a>", 255, "<title></title></b>", "WrongEnd 780"),
         ("<!--\u{e9}-->", "<a>", 257, "", "TooDeep 777"),
         ("<!--\u{1f600}-->", "<a>", 256, "\u{e9}", "TooDeep 779"),
@@ -72,6 +74,8 @@ fn limits_of_texts(rt: HostRuntime) -> Result<(), Fail> {
         ("<p>", "a\r\n", 131_073, "</p>", "TooLong 3"),
         ("<title>", "a", 262_144, "</title>", ""),
         ("<title>", "a", 262_145, "</title>", "TooLong 7"),
+        ("<title>", "a", 262_145, "", "Unclosed 0"),
+        ("<p>", "a", 262_145, "", "TooLong 3"),
         ("<style>", "a", 262_144, "</style>", ""),
         ("<style>", "\r\n", 262_145, "</style>", "TooLong 7"),
         ("<script>", "a", 262_145, "</script>", "TooLong 8"),
@@ -99,6 +103,9 @@ fn limits_of_names_and_values(rt: HostRuntime) -> Result<(), Fail> {
         ("<p a='", "&amp;", 262_145, "'></p>", "TooLong 6"),
         ("<p a=", "b", 262_145, "></p>", "TooLong 5"),
         ("<p \u{e9}=", "b", 262_145, "></p>", "TooLong 6"),
+        ("<p b a=1 B='", "c", 262_145, "'></p>", "TooLong 12"),
+        ("<p a='", "b", 262_145, "", "Unclosed 0"),
+        ("<p a=", "b", 262_145, "", "TooLong 5"),
     ];
     assert_eq!(rt; first_wrong(&rt, rt.alloc(), &rows)?, None);
     Ok(())

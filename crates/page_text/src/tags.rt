@@ -1,16 +1,17 @@
 //! Reading the tags of elements.
 
-ghost use Rattle.std.specs.Prelude.{◌≡◌, ◌<◌, ◌≤◌, ◌+◌, codes, length, ◌++◌, ℕ, List, [], ◌∷◌, None, Some, Ok, Err, drop, true, false, IfNone, IfOk, IfErr, IfSome, OnOk, MatchOption};
+ghost use Rattle.std.specs.Prelude.{◌≡◌, ◌<◌, ◌≤◌, ◌+◌, length, map, ◌++◌, ℕ, List, [], ◌∷◌, None, Some, Ok, Err, drop, true, false, IfNone, IfOk, IfErr, IfSome, OnOk, MatchOption};
 ghost use Rattle.std.specs.List.{list_any};
-ghost use Rattle.std.specs.Str.{IsCharBoundary, bytes_eq};
+ghost use Rattle.std.specs.Str.{IsCharBoundary, bytes_eq, chars};
+ghost use Rattle.base_text.specs.declared.text.TheConstants.{TEXT_LIMIT};
 ghost use Rattle.page_text.specs.Bytes.{lowered};
 ghost use Rattle.page_text.specs.Bytes as bytes_spec;
 ghost use Rattle.dom_semantics.specs.Whitespace.{is_white_space};
 ghost use Rattle.page_text.specs.Outcomes.{Answers, Gives, IsLess, IsRest, checked};
 ghost use Rattle.page_text.specs.ScansModel.{before, from, stops};
 ghost use Rattle.page_text.specs.declared.tags.Attribute.{Attribute as ReadAttribute};
-ghost use Rattle.page_text.specs.Grammar as spelled;
-ghost use Rattle.page_text.specs.ValuesModel.{spells};
+ghost use Rattle.page_text.specs.PageSpelling.{begins_comment, begins_end_tag, begins_start_tag};
+ghost use Rattle.page_text.specs.PageTags as spelled;
 ghost use Rattle.page_text.specs.TagsModel as spec;
 
 use crate::faults::{Failed, PageKind};
@@ -334,15 +335,20 @@ pub(crate) fn doctype<'a>(text: &'a str) -> Result<&'a str, Failed<'a>>
     }
 }
 
-/// What is read at a place is spelled so there, and what is spelled so is read: an attribute, the
-/// attributes of a tag, an end tag and a comment, whatever follows them.
+/// What the reader's model reads at a place is spelled so there by the page grammar, and what is
+/// spelled so, with no part that is too long, is read: an attribute, the attributes of a tag, a
+/// start tag, an end tag, a comment and a doctype, whatever follows them.
 pub fn tags_are_spelled_so()
-    ensures attribute { (start text : List ℕ) (a : ReadAttribute) (rest : List ℕ) → spec.attribute_at start text ≡ Ok (a, rest) → spelled.IsAttribute text a rest }
-    ensures attribute_again { (start text : List ℕ) (a : ReadAttribute) (rest : List ℕ) → spelled.IsAttribute text a rest → spec.attribute_at start text ≡ Ok (a, rest) }
-    ensures attributes { (start text : List ℕ) (found : List ReadAttribute) (rest : List ℕ) → spec.Attributes start [] text (Ok (found, rest)) → spelled.AreCounted text found rest }
-    ensures attributes_again { (start text : List ℕ) (found : List ReadAttribute) (rest : List ℕ) → spelled.AreCounted text found rest → spec.Attributes start [] text (Ok (found, rest)) }
-    ensures end_tag { (text name rest : List ℕ) → spec.end_tag_at text ≡ Ok (name, rest) → spelled.IsEndTag text name rest }
+    ensures attribute { (start text : List ℕ) (a : ReadAttribute) (rest : List ℕ) → bytes_spec.begins bytes_spec.is_attribute_byte text ≡ true → spec.attribute_at start text ≡ Ok (a, rest) → (one : spelled.ReadAttribute) × spelled.IsAttribute text one rest × spelled.AreShort (one ∷ []) × (a ≡ spelled.attribute_of one) }
+    ensures attribute_again { (start text : List ℕ) (one : spelled.ReadAttribute) (rest : List ℕ) → spelled.IsAttribute text one rest → spelled.AreShort (one ∷ []) → spec.attribute_at start text ≡ Ok (spelled.attribute_of one, rest) }
+    ensures attributes { (start text : List ℕ) (found : List ReadAttribute) (rest : List ℕ) → spec.Attributes start [] text (Ok (found, rest)) → (all : List spelled.ReadAttribute) × (behind : List ℕ) × spelled.AreAttributes text all behind × spelled.EndsTag behind rest × spelled.AreShort all × (found ≡ spelled.first_of_each (map spelled.attribute_of all)) }
+    ensures attributes_again { (start text : List ℕ) (all : List spelled.ReadAttribute) (behind rest : List ℕ) → spelled.AreAttributes text all behind → spelled.EndsTag behind rest → spelled.AreShort all → spec.Attributes start [] text (Ok (spelled.first_of_each (map spelled.attribute_of all), rest)) }
+    ensures start_tag { (text : List ℕ) (read : spec.Tag) → begins_start_tag text ≡ true → spec.StartTag text (Ok read) → (one : spelled.StartTag) × spelled.IsStartTag text one read.rest × spelled.IsShort one × (read.name ≡ spelled.tag_of one) × (read.attributes ≡ spelled.attributes_of one) }
+    ensures start_tag_again { (text rest : List ℕ) (one : spelled.StartTag) → spelled.IsStartTag text one rest → spelled.IsShort one → spec.StartTag text (Ok record { name = spelled.tag_of one; attributes = spelled.attributes_of one; rest = rest }) }
+    ensures end_tag { (text name rest : List ℕ) → begins_end_tag text ≡ true → spec.end_tag_at text ≡ Ok (name, rest) → spelled.IsEndTag text name rest }
     ensures end_tag_again { (text name rest : List ℕ) → spelled.IsEndTag text name rest → spec.end_tag_at text ≡ Ok (name, rest) }
-    ensures comment { (text content rest : List ℕ) → spells (codes "<!--") text ≡ true → spec.comment_at text ≡ Ok (content, rest) → spelled.IsComment text content rest }
-    ensures comment_again { (text content rest : List ℕ) → spelled.IsComment text content rest → spec.comment_at text ≡ Ok (content, rest) }
+    ensures comment { (text shown rest : List ℕ) → begins_comment text ≡ true → spec.comment_at text ≡ Ok (shown, rest) → (content : List ℕ) × spelled.IsComment text content rest × (length content ≤ TEXT_LIMIT) × (shown ≡ chars content) }
+    ensures comment_again { (text content rest : List ℕ) → spelled.IsComment text content rest → length content ≤ TEXT_LIMIT → spec.comment_at text ≡ Ok (chars content, rest) }
+    ensures doctype { (text rest : List ℕ) → spelled.begins_doctype text ≡ true → spec.doctype_at text ≡ Ok rest → spelled.IsDoctype text rest }
+    ensures doctype_again { (text rest : List ℕ) → spelled.IsDoctype text rest → spec.doctype_at text ≡ Ok rest }
 {}
