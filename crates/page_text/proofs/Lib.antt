@@ -1,6 +1,7 @@
 pub mod Encoded
 pub mod Names
 pub mod Once
+pub mod PageAnswered
 pub mod PageBreaks
 pub mod PageCounted
 pub mod PageCuts
@@ -17,14 +18,19 @@ pub mod PageMoved
 pub mod PageNodesOnce
 pub mod PageOpened
 pub mod PageParts
+pub mod PageRawRefusals
 pub mod PageRaws
+pub mod PageRefusals
 pub mod PageScans
 pub mod PageStartFaults
+pub mod PageStartOnce
 pub mod PageState
+pub mod PageStepped
 pub mod PageSteps
 pub mod PageStuck
 pub mod PageTagLists
 pub mod PageTagParts
+pub mod PageTagRefused
 pub mod PageTagsOnce
 pub mod PageTagsRead
 pub mod PageTagsWhole

@@ -138,9 +138,9 @@ module _ (text : Bytes) (done : List Piece) (s : State) (i : IsState text done s
   end_refused_in shown e g h =
       let is = inside_read raw s.next (length s.open_elements) depth_in number_in s.rest t.rest shown depth_eq number_eq g in
       let up = end_of_here raw t.rest in
-      let begins = stop_there (begins_end_of (raw_name raw)) (from (stops (AtEndOf raw)) t.rest) up.stop is.some in
-      bad_end_tag up begins is.inside (end_err (from (stops (AtEndOf raw)) t.rest) e (end_mark (raw_name raw) (from (stops (AtEndOf raw)) t.rest) begins)
-      (end_letter (raw_name raw) (from (stops (AtEndOf raw)) t.rest) (raw_small raw) (raw_some raw) begins) h)
+      let begun = stop_there (begins_end_of (raw_name raw)) (from (stops (AtEndOf raw)) t.rest) up.stop is.some in
+      bad_end_tag up begun is.inside (end_err (from (stops (AtEndOf raw)) t.rest) e (end_mark (raw_name raw) (from (stops (AtEndOf raw)) t.rest) begun)
+      (end_letter (raw_name raw) (from (stops (AtEndOf raw)) t.rest) (raw_small raw) (raw_some raw) begun) h)
 
   pub raw_refused : (e : PageKind × Bytes) → front_of s.rest ≡ m.start_tag → raw_step s t raw ≡ Err e → Fails text done s i e
   unfolding raw_step
