@@ -23,7 +23,7 @@ pub enum Expr {
     /// A name.
     Name(Text),
     /// A number from 0 to 9007199254740991.
-    Number(u64),
+    Number(i64),
     /// A text.
     Str(Text),
     /// `true` or `false`
