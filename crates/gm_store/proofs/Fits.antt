@@ -9,8 +9,8 @@ use Rattle.std.proofs.lemmas.Map.Views.{tells_apart}
 use Rattle.base_text.specs.Scalars.{text_cmp}
 use Rattle.serde_json.specs.Data.{Data, Members, no_members, member, Items, no_items, item}
 use Rattle.serde_json.specs.Events.{members_len}
-use Rattle.gm_store.specs.declared.kept.Kept.{Kept}
-use Rattle.gm_store.specs.declared.kept.Kept.TheVariants.{Str, Bool as Truth, Number}
+use Rattle.dom_semantics.specs.declared.kept.Kept.{Kept}
+use Rattle.dom_semantics.specs.declared.kept.Kept.TheVariants.{Str, Bool as Truth, Number}
 use Rattle.gm_store.specs.Maps.{Values, Names, Maps, names_in, values_in, value_at, with_values, with_value, without_value}
 use Rattle.gm_store.specs.Limits.{IsShort, KeptFits, ValuesFit, NamesFit, MapsFit}
 use Rattle.gm_store.specs.Stored.{IsKept, PutsMembers, AddsScript, AddsScripts, IsStored}

@@ -3,6 +3,7 @@ use Rattle.std.specs.Prelude.{◌≡◌, ℕ, List, Option, Some, None, true, fa
 use Rattle.std.specs.Ordering.{eq_by_cmp}
 use Rattle.std.proofs.lemmas.Result.{on_err_weaker}
 use Rattle.std.specs.Prelude.{Result, Ok, Err, OnErr, IsErrOf, IsErrAnd, ◌↔◌, ◌≤◌}
+use Rattle.dom_semantics.specs.declared.kept.Kept.{Kept}
 use Rattle.gm_store.specs.declared.stores.SetFault.{SetFault}
 use Rattle.gm_store.specs.declared.stores.SetFault.TheVariants.{ValueLimit, NoMemory}
 use Rattle.std.specs.Prelude.{length, [], ◌∷◌}
@@ -11,7 +12,6 @@ use Rattle.std.specs.FinMap.{keys, entries, len-entries, len, len-empty, FinMap,
 use Rattle.std.proofs.Common.{ap, sym, ◌∙◌, arith}
 use Rattle.std.proofs.lemmas.Map.Views.{tells_apart}
 use Rattle.base_text.specs.Scalars.{text_cmp}
-use Rattle.gm_store.specs.declared.kept.Kept.{Kept}
 use Rattle.gm_store.specs.Maps.{Values, Names, Maps, names_in, values_in, value_at, with_values, with_value, without_value}
 use Rattle.gm_store.proofs.TextMaps.{texts_total, exact_texts}
 
