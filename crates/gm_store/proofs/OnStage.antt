@@ -23,8 +23,8 @@ use Rattle.gm_store.proofs.MapLemmas.{no_values_1}
 use Rattle.gm_store.proofs.RoundTrip.{parts, same_key, get_other, value_with}
 use Rattle.gm_store.proofs.TextMaps.{texts_total, exact_texts, no_entries}
 
-abbrev Entries : Type 0
-Entries = List (List ℕ × Kept)
+abbrev Listed : Type 0
+Listed = List (List ℕ × Kept)
 
 -- ---- the values of one script
 
@@ -32,28 +32,28 @@ Entries = List (List ℕ × Kept)
 same_test : (e q : List ℕ) → bytes_eq e q ≡ eq_by_cmp text_cmp q e
 same_test e q = text_ties e q ∙ (eq_by_cmp_equiv texts_total).symm e q
 
-found : (key : List ℕ) (es : Entries) → stage.value_in key es ≡ find text_cmp key es
+found : (key : List ℕ) (es : Listed) → stage.value_in key es ≡ find text_cmp key es
 found key [] = refl
 found key (e ∷ es) = ap (λ (b : Bool). cond b (Some e.1) (stage.value_in key es)) (same_test e.0 key) ∙ ap (cond (eq_by_cmp text_cmp key e.0) (Some e.1)) (found key es)
 
-placed_in : (key : List ℕ) (v : Kept) (es : Entries) → stage.with_value key v es ≡ put text_cmp key v es
+placed_in : (key : List ℕ) (v : Kept) (es : Listed) → stage.with_value key v es ≡ put text_cmp key v es
 placed_in key v [] = refl
 placed_in key v (e ∷ es) =
     ap (λ (b : Bool). cond b ((e.0, v) ∷ es) (cond (is_lt (text_cmp key e.0)) ((key, v) ∷ e ∷ es) (e ∷ stage.with_value key v es))) (same_test e.0 key)
     ∙ elim (text_cmp key e.0) as (λ (o : Ordering). cond (is_eq o) ((e.0, v) ∷ es) (cond (is_lt o) ((key, v) ∷ e ∷ es) (e ∷ stage.with_value key v es)) ≡ by_order o ((key, v) ∷ e ∷ es) ((e.0, v) ∷ es) (e ∷ put text_cmp key v es)) [
       | Less ↦ refl
       | Equal ↦ refl
-      | Greater ↦ ap (λ (xs : Entries). e ∷ xs) (placed_in key v es)
+      | Greater ↦ ap (λ (xs : Listed). e ∷ xs) (placed_in key v es)
     ]
 
-abbrev others : List ℕ → Entries → Entries
+abbrev others : List ℕ → Listed → Listed
 others key es = filter (λ (e : List ℕ × Kept). not (eq_by_cmp text_cmp key e.0)) es
 
-left_in : (key : List ℕ) (es : Entries) → stage.without_value key es ≡ others key es
+left_in : (key : List ℕ) (es : Listed) → stage.without_value key es ≡ others key es
 left_in key [] = refl
 left_in key (e ∷ es) =
     ap (λ (b : Bool). cond (not b) (e ∷ stage.without_value key es) (stage.without_value key es)) (same_test e.0 key)
-    ∙ ap (λ (xs : Entries). cond (not (eq_by_cmp text_cmp key e.0)) (e ∷ xs) xs) (left_in key es)
+    ∙ ap (λ (xs : Listed). cond (not (eq_by_cmp text_cmp key e.0)) (e ∷ xs) xs) (left_in key es)
 
 removed : (m : Values) (key : List ℕ) → entries (remove m key) ≡ others key (entries m)
 unfolding entries remove retain_keys
@@ -64,7 +64,7 @@ removed m key = refl
 refuses : (o : Option Kept) (n : ℕ) → (cond (is_some o || nat_lt n VALUE_LIMIT) None (Some Limit) ≡ Some Limit) ↔ ((o ≡ None) × (VALUE_LIMIT ≤ n))
 refuses (Some w) n = (λ h. absurd (true≢false (ap is_some (sym h))), λ h. absurd (true≢false (ap is_some h.0)))
 refuses None n =
-    elim (nat_lt n VALUE_LIMIT) as (λ b. nat_lt n VALUE_LIMIT ≡ b → (cond b None (Some Limit) ≡ Some Limit) ↔ ((None ≡ None) × (VALUE_LIMIT ≤ n))) [
+    elim (nat_lt n VALUE_LIMIT) as (λ b. nat_lt n VALUE_LIMIT ≡ b → (cond b None (Some Limit) ≡ Some Limit) ↔ ((◌≡◌ {A = Option Kept} None None) × (VALUE_LIMIT ≤ n))) [
       | true ↦ λ below. let less : n < VALUE_LIMIT = ltb-true n VALUE_LIMIT below in (λ h. absurd (true≢false (ap is_some (sym h))), λ h. let more = h.1 in absurd (omega (arith, less, more)))
       | false ↦ λ above. (λ h. (refl, ltb-false n VALUE_LIMIT above), λ h. refl)
     ] refl
@@ -88,7 +88,7 @@ one_owner a b e =
     let names : a.name ≡ b.name = (bytes_eq-Decides a.name b.name).0 both.1 in
     λ i. record { namespace = namespaces i; name = names i }
 
-values_there : (stores : stage.Stores) (owner : Owner) (vs : Entries) → stage.values_of (stage.with_values stores owner vs) owner ≡ vs
+values_there : (stores : stage.Stores) (owner : Owner) (vs : Listed) → stage.values_of (stage.with_values stores owner vs) owner ≡ vs
 values_there [] owner vs = ap (λ (b : Bool). cond b vs []) (own owner)
 values_there (s ∷ ss) owner vs =
     elim (stage.is_owner s.0 owner) as (λ b. stage.is_owner s.0 owner ≡ b → stage.values_of (cond b ((s.0, vs) ∷ ss) (cond (stage.is_before owner s.0) ((owner, vs) ∷ s ∷ ss) (s ∷ stage.with_values ss owner vs))) owner ≡ vs) [
@@ -99,7 +99,7 @@ values_there (s ∷ ss) owner vs =
       ]
     ] refl
 
-values_beside : (stores : stage.Stores) (owner other : Owner) (vs : Entries) → stage.is_owner owner other ≡ false → stage.values_of (stage.with_values stores owner vs) other ≡ stage.values_of stores other
+values_beside : (stores : stage.Stores) (owner other : Owner) (vs : Listed) → stage.is_owner owner other ≡ false → stage.values_of (stage.with_values stores owner vs) other ≡ stage.values_of stores other
 values_beside [] owner other vs apart = ap (λ (b : Bool). cond b vs []) apart
 values_beside (s ∷ ss) owner other vs apart =
     elim (stage.is_owner s.0 owner) as (λ b. stage.is_owner s.0 owner ≡ b → stage.values_of (cond b ((s.0, vs) ∷ ss) (cond (stage.is_before owner s.0) ((owner, vs) ∷ s ∷ ss) (s ∷ stage.with_values ss owner vs))) other ≡ stage.values_of (s ∷ ss) other) [
@@ -117,18 +117,18 @@ values_beside (s ∷ ss) owner other vs apart =
 map_there : (m : Maps) (namespace name : List ℕ) (vs : Values) → values_in (with_values m namespace name vs) namespace name ≡ vs
 map_there m namespace name vs = value_with m namespace name vs name ∙ ap (λ (b : Bool). cond b vs (values_in m namespace name)) (same_key name)
 
-map_beside : (m : Maps) (namespace name : List ℕ) (vs : Values) (space call : List ℕ) → (eq_by_cmp text_cmp space namespace && eq_by_cmp text_cmp call name) ≡ false → values_in (with_values m namespace name vs) space call ≡ values_in m space call
-map_beside m namespace name vs space call apart =
-    elim (eq_by_cmp text_cmp space namespace) as (λ b. eq_by_cmp text_cmp space namespace ≡ b → (b && eq_by_cmp text_cmp call name) ≡ false → values_in (with_values m namespace name vs) space call ≡ values_in m space call) [
-      | true ↦ λ same other. subst (λ (q : List ℕ). values_in (with_values m namespace name vs) q call ≡ values_in m q call) (sym (tells_apart exact_texts space namespace same))
-          (value_with m namespace name vs call ∙ ap (λ (b : Bool). cond b vs (values_in m namespace call)) other)
-      | false ↦ λ other _. ap (λ (o : Option Names). unwrap_or (get (unwrap_or o empty) call) empty) (get_other m namespace (insert (names_in m namespace) name vs) space other)
+map_beside : (m : Maps) (namespace name : List ℕ) (vs : Values) (space script : List ℕ) → (eq_by_cmp text_cmp space namespace && eq_by_cmp text_cmp script name) ≡ false → values_in (with_values m namespace name vs) space script ≡ values_in m space script
+map_beside m namespace name vs space script apart =
+    elim (eq_by_cmp text_cmp space namespace) as (λ b. eq_by_cmp text_cmp space namespace ≡ b → (b && eq_by_cmp text_cmp script name) ≡ false → values_in (with_values m namespace name vs) space script ≡ values_in m space script) [
+      | true ↦ λ same other. subst (λ (q : List ℕ). values_in (with_values m namespace name vs) q script ≡ values_in m q script) (sym (tells_apart exact_texts space namespace same))
+          (value_with m namespace name vs script ∙ ap (λ (b : Bool). cond b vs (values_in m namespace script)) other)
+      | false ↦ λ other _. ap (λ (o : Option Names). unwrap_or (get (unwrap_or o empty) script) empty) (get_other m namespace (insert (names_in m namespace) name vs) space other)
     ] refl apart
 
 -- ---- both
 
 -- other values for one script on both sides
-both_with : (m : Maps) (stores : stage.Stores) (owner : Owner) (vs : Values) (es : Entries) → KeepsOnStage m stores → es ≡ entries vs
+both_with : (m : Maps) (stores : stage.Stores) (owner : Owner) (vs : Values) (es : Listed) → KeepsOnStage m stores → es ≡ entries vs
     → KeepsOnStage (with_values m owner.namespace owner.name vs) (stage.with_values stores owner es)
 both_with m stores owner vs es keeps is = λ other.
     elim (stage.is_owner owner other) as (λ b. stage.is_owner owner other ≡ b
