@@ -1,5 +1,5 @@
 -- How many turns a lawful journal has, and what waits where nothing comes next.
-use Rattle.std.proofs.Common.{◌≡◌, ◌∙◌, ◌≤◌, ◌<◌, ◌⊎◌, ◌+◌, ap, cond, sym, refl, subst, inl, inr, true≢false, append_assoc, arith, nat_lt, ℕ, Bool, true, false, List, [], ◌∷◌, ◌++◌, length, slice_get, Option, Some, None}
+use Rattle.std.proofs.Common.{◌≡◌, ◌≤◌, ◌<◌, ◌⊎◌, ◌+◌, ap, cond, sym, refl, subst, inl, inr, true≢false, append_assoc, arith, nat_lt, ℕ, Bool, true, false, List, [], ◌∷◌, ◌++◌, length, slice_get, Option, Some, None}
 use Rattle.std.proofs.lemmas.Bool.Decides.{nat_tests}
 use Rattle.std.proofs.lemmas.List.{append-nil}
 use Rattle.std.specs.Prelude.{take, is_some}
@@ -7,16 +7,16 @@ use Rattle.door.specs.declared.values.Actor.{Actor}
 use Rattle.door.specs.declared.marks.Task.{Task}
 use Rattle.door.specs.declared.marks.Mark.{Mark}
 use Rattle.door.specs.declared.marks.Mark.TheVariants.{Turn, Build, Enter, Ask, Dispatch, Back, Leave, Serve, Served}
-use Rattle.dom_semantics.specs.Forest.{Forest}
 use Rattle.dom_semantics.specs.Stage.{Stage, Setting}
 use Rattle.dom_semantics.specs.StageOf.{Course, course_of, stage_of, first_step}
 use Rattle.dom_semantics.specs.Walks as walk
 use Rattle.solo_model.specs.Given.{Given, setting_of}
 use Rattle.solo_model.specs.Nesting.{Unfinished, Running, Walking, Calling, Returning, Progress, advanced, at_first, progress_from, progress_of}
-use Rattle.solo_model.specs.NextMark.{Next, Exactly, ByActor, ByReturn, Nothing, Allows, AreAllowed, IsCutByTasks, IsLawful, next_in, next_of, step_or_turn, turn_or_nothing, turn_steps, waiting_task, walk_next}
+use Rattle.solo_model.specs.NextMark.{Next, Exactly, Nothing, Allows, AreAllowed, IsCutByTasks, IsLawful, next_in, next_of, step_or_turn, turn_or_nothing, turn_steps, waiting_task, walk_next}
 use Rattle.solo_model.specs.Tasks.{TASK_LIMIT}
 use Rattle.solo_model.proofs.Growing.{progress_from-append}
-use Rattle.solo_model.specs.Turns.{Step, Builds, Places, Enters, Sends, mark_of}
+use Rattle.solo_model.proofs.NextTurns.{allowed_turn, task_of, turn_next}
+use Rattle.solo_model.specs.Turns.{Step}
 
 -- ---- nothing comes next
 
@@ -30,9 +30,6 @@ IsEnd task turns = (task ≡ None) ⊎ (TASK_LIMIT ≤ turns)
 
 not_below : (a b : ℕ) → nat_lt a b ≡ false → b ≤ a
 not_below a b h = grind (arith, nat_tests)
-
-below : (a b : ℕ) → nat_lt a b ≡ true → a < b
-below a b h = grind (arith, nat_tests)
 
 by_limit : (turns : ℕ) (task : Task) (b : Bool) → nat_lt turns TASK_LIMIT ≡ b → cond b (Exactly (Turn task)) Nothing ≡ Nothing → TASK_LIMIT ≤ turns
 by_limit turns task true h e = absurd (true≢false (sym (ap is_nothing e)))
@@ -59,52 +56,6 @@ at_end given before now p (Walking i event ∷ outer) e = absurd (no_walk now.st
 at_end given before now p (Calling i owner value operation ∷ outer) e = absurd (true≢false (sym (ap is_nothing e)))
 at_end given before now p (Returning i outcome ∷ outer) e = absurd (true≢false (sym (ap is_nothing e)))
 
--- ---- a turn comes next
-
-abbrev is_turn_mark : Mark → Bool
-is_turn_mark (Turn task) = true
-is_turn_mark mark = false
-
-abbrev is_turn : Next → Bool
-is_turn (Exactly mark) = is_turn_mark mark
-is_turn next = false
-
-turn_limit : (turns : ℕ) (task : Task) (b : Bool) → nat_lt turns TASK_LIMIT ≡ b → is_turn (cond b (Exactly (Turn task)) Nothing) ≡ true → turns < TASK_LIMIT
-turn_limit turns task true h e = below turns TASK_LIMIT h
-turn_limit turns task false h e = absurd (true≢false (sym e))
-
-turn_task : (turns : ℕ) (task : Option Task) → is_turn (turn_or_nothing turns task) ≡ true → turns < TASK_LIMIT
-turn_task turns None e = absurd (true≢false (sym e))
-turn_task turns (Some task) e = turn_limit turns task (nat_lt turns TASK_LIMIT) refl e
-
-no_step : (f : Forest) (step : Step) → is_turn_mark (mark_of f step) ≡ false
-no_step f (Builds request) = refl
-no_step f (Places request) = refl
-no_step f (Enters i entry) = refl
-no_step f (Sends event target) = refl
-
-turn_step : (given : Given) (s : Stage) (p : Progress) (step : Option Step) → is_turn (step_or_turn given s p step) ≡ true → p.turns < TASK_LIMIT
-turn_step given s p None e = turn_task p.turns (waiting_task given s p) e
-turn_step given s p (Some step) e = absurd (true≢false (sym e ∙ no_step s.nodes step))
-
-turn_walk : (s : Stage) (i : Actor) (event : ℕ) (step : Option walk.Step) → is_turn (walk_next s i event step) ≡ true → ⊥
-turn_walk s i event None e = true≢false (sym e)
-turn_walk s i event (Some step) e = true≢false (sym e)
-
-turn_in : (given : Given) (before : Stage) (now : Course) (p : Progress) (unfinished : List Unfinished)
-    → is_turn (next_in given before now p unfinished) ≡ true → p.turns < TASK_LIMIT
-turn_in given before now p [] e = turn_step given now.stage p (slice_get (turn_steps given before p.task) p.made) e
-turn_in given before now p (Running i entry ∷ outer) e = absurd (true≢false (sym e))
-turn_in given before now p (Walking i event ∷ outer) e = absurd (turn_walk now.stage i event (first_step now.stage now.walks) e)
-turn_in given before now p (Calling i owner value operation ∷ outer) e = absurd (true≢false (sym e))
-turn_in given before now p (Returning i outcome ∷ outer) e = absurd (true≢false (sym e))
-
-allowed_turn : (given : Given) (before : List Mark) (next : Next) (task : Task) → Allows given before next (Turn task) → is_turn next ≡ true
-allowed_turn given before (Exactly due) task h = sym (ap is_turn_mark h)
-allowed_turn given before (ByActor i entry) task h = absurd h
-allowed_turn given before (ByReturn i outcome) task h = absurd h
-allowed_turn given before Nothing task h = absurd h
-
 -- ---- how many
 
 one_below : (a b : ℕ) → a < b → a + 1 ≤ b
@@ -116,8 +67,9 @@ one_more : (given : Given) (setting : Setting) (before : List Mark) (at : ℕ) (
 one_more given setting before at p (Turn task) same few h =
     let now : Progress = progress_of before in
     let P : Progress → Type 0 = λ q. q.turns < TASK_LIMIT in
+    let next : task_of (next_of given setting before) ≡ Some task = allowed_turn given before (next_of given setting before) task h in
     let room : now.turns < TASK_LIMIT =
-    turn_in given (stage_of setting (take now.before before)) (course_of setting before) now now.unfinished (allowed_turn given before (next_of given setting before) task h) in
+    (turn_next given (stage_of setting (take now.before before)) (course_of setting before) now now.unfinished task next).1 in
     one_below p.turns TASK_LIMIT (subst P (sym same) room)
 one_more given setting before at p (Build request) same few h = few
 one_more given setting before at p (Enter i entry) same few h = few

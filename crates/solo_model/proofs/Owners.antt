@@ -7,11 +7,12 @@ use Rattle.dom_semantics.specs.Stage.{Setting}
 use Rattle.solo_model.specs.Acts.{Setups}
 use Rattle.solo_model.specs.Genuine.{AreTrueMarks}
 
-both_true : (a b : Bool) → a ≡ true → b ≡ true → (a && b) ≡ true
+pub both_true : (a b : Bool) → a ≡ true → b ≡ true → (a && b) ≡ true
 both_true true b h k = k
 both_true false b h k = absurd (true≢false (sym h))
 
-pub no_host_cells : (setups : Setups) (setting : Setting) (before marks : List Mark) → AreTrueMarks setups setting before marks → list_all mark_has_owners marks ≡ true
+pub no_host_cells : (setups : Setups) (setting : Setting) (before marks : List Mark) → AreTrueMarks setups setting before marks
+    → list_all mark_has_owners marks ≡ true
 unfolding AreTrueMarks
 no_host_cells setups setting before [] h = refl
 no_host_cells setups setting before (mark ∷ marks) h =

@@ -15,7 +15,7 @@ use Rattle.door.specs.declared.requests.ReachOp.{ReachOp}
 use Rattle.door.specs.declared.requests.ReachOp.TheVariants.{Waive}
 use Rattle.door.specs.declared.requests.ServeOp.{ServeOp}
 use Rattle.door.specs.declared.requests.Answer.{Answer}
-use Rattle.door.specs.declared.requests.Answer.TheVariants.{Denied}
+use Rattle.door.specs.declared.requests.Answer.TheVariants.{Value as ValueAnswer, Keys, Denied, Thrown, Stopped}
 use Rattle.door.specs.declared.marks.Mark.{Mark}
 use Rattle.door.specs.declared.marks.Mark.TheVariants.{Build, Ask, Dispatch, Serve, Served}
 use Rattle.door.specs.Looks.{look_of}
@@ -108,8 +108,17 @@ pub record IsTrueServe (setups : Setups) (s : Stage) (before : List Mark) (i own
   pub keys : are_short (serve_keys operation) ≡ true
   pub named : may_name_all (zones_of setups) before i (objects_in (v ∷ serve_values operation)) ≡ true
 
+-- an operation on an object gives a value, keys or a throw, or it was stopped
+abbrev pub is_served : Answer → Bool
+is_served (ValueAnswer v) = true
+is_served (Keys keys) = true
+is_served (Thrown v) = true
+is_served Stopped = true
+is_served answer = false
+
 -- what is served is there
 pub record IsTrueServed (setups : Setups) (s : Stage) (before : List Mark) (i : Actor) (answer : Answer) : Type 0 where
+  pub kind : is_served answer ≡ true
   pub there : are_there s (answer_values answer) ≡ true
   pub keys : are_short (answer_keys answer) ≡ true
   pub named : may_name_all (zones_of setups) before i (objects_in (answer_values answer)) ≡ true

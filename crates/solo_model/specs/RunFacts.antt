@@ -132,6 +132,10 @@ by_class name = (record { tag = None; parts = Class name ∷ [] } ∷ []) ∷ []
 abbrev by_value : List ℕ → List (List Compound)
 by_value text = (record { tag = None; parts = Is (codes "value") text ∷ [] } ∷ []) ∷ []
 
+-- the element of the value `a` gets another one
+abbrev inputs_value : ℕ → List ℕ → Line
+inputs_value k text = Input k (by_value (codes "a")) text
+
 abbrev clicks_p : ℕ → Line
 clicks_p k = Click k (by_id (codes "p"))
 
@@ -301,10 +305,17 @@ sets_at_click i (entry.Script text) = part (listens 1 p (codes "click") 301 ∷ 
 sets_at_click i (entry.Listener place event current) = part (sets_timer 50 300 ∷ [])
 sets_at_click i entry = part []
 
--- the listener of `input` on p asks for its value
+abbrev reads_target : Thing → Deed
+reads_target e = Asks m.EventTarget e []
+
+-- of an event its type, whether it is cancelable, bubbles and is trusted, and its target
+abbrev asks_all : Thing → List Deed
+asks_all e = Asks m.EventType e [] ∷ Asks m.EventCancelable e [] ∷ Asks m.EventBubbles e [] ∷ Asks m.EventIsTrusted e [] ∷ reads_target e ∷ []
+
+-- the listener of `input` on p asks for its value, and all about the event
 abbrev reads_value : Behaviour
 reads_value i (entry.Script text) = part (listens 1 p (codes "input") 301 ∷ [])
-reads_value i (entry.Listener place event current) = part (Asks m.ElementGetAttribute p (value.Str (codes "value") ∷ []) ∷ [])
+reads_value i (entry.Listener place e current) = part (Asks m.ElementGetAttribute p (value.Str (codes "value") ∷ []) ∷ asks_all e)
 reads_value i entry = part []
 
 -- the page listens for clicks on the body; the first event of the scenario is done that, and each later one this
@@ -312,9 +323,6 @@ abbrev on_click : (Thing → List Deed) → (Thing → List Deed) → Behaviour
 on_click first later i (entry.Script text) = part (listens 1 (element 2) (codes "click") 301 ∷ [])
 on_click first later i (entry.Listener place e current) = part (if nat_eq e.number 2 then first e else later e)
 on_click first later i entry = part []
-
-abbrev reads_target : Thing → Deed
-reads_target e = Asks m.EventTarget e []
 
 abbrev done : Answer
 done = tells value.Undefined
@@ -343,11 +351,10 @@ abbrev tells_flag : Bool → Answer
 tells_flag flag = tells (value.Bool flag)
 
 -- the document listens for an event of a line, and asks all about it
-abbrev asks_event : Behaviour
-asks_event i (entry.Script text) = part (listens 1 the_document (codes "my-kind") 301 ∷ [])
-asks_event i (entry.Listener place e current) =
-    part (Asks m.EventType e [] ∷ Asks m.EventCancelable e [] ∷ Asks m.EventBubbles e [] ∷ Asks m.EventIsTrusted e [] ∷ reads_target e ∷ [])
-asks_event i entry = part []
+abbrev asks_event : List ℕ → Behaviour
+asks_event kind i (entry.Script text) = part (listens 1 the_document kind 301 ∷ [])
+asks_event kind i (entry.Listener place e current) = part (asks_all e)
+asks_event kind i entry = part []
 
 -- ---- limits of dispatches
 
@@ -405,7 +412,8 @@ pub record RunFacts : Type 0 where
   pub no_delay : Does (Tick 1 0 ∷ [])
       (timed (Asks m.WindowSetTimeout the_window (value.Cell (actor 1) 300 Function false ∷ value.Undefined ∷ []) ∷ []) 0 []) (timer 1 ∷ [])
   -- two that are set by the first, of which one has no delay: what Gecko printed
-  pub again : Does (Tick 1 500 ∷ []) (timed (sets_timer 100 300 ∷ sets_timer 150 301 ∷ sets_timer 300 302 ∷ []) 300 (sets_timer 100 303 ∷ sets_timer 0 304 ∷ []))
+  pub again : Does (Tick 1 500 ∷ [])
+      (timed (sets_timer 100 300 ∷ sets_timer 150 301 ∷ sets_timer 300 302 ∷ []) 300 (sets_timer 100 303 ∷ sets_timer 0 304 ∷ []))
       (timer 1 ∷ timer 5 ∷ timer 2 ∷ timer 4 ∷ timer 3 ∷ [])
   -- a timer that is set at a line is due by the ticks before that line
   pub clock_of_line : Does (Tick 1 100 ∷ clicks_p 2 ∷ Tick 3 49 ∷ []) sets_at_click (task.Line 2 ∷ [])
@@ -421,9 +429,13 @@ pub record RunFacts : Type 0 where
   -- a click reaches both listeners though the first was stopped; the input line sets the value first, so its own selector counts before
   pub stopped : Enters (Click 2 (by_id (codes "p")) ∷ []) clicked (called 301 2 ∷ called 302 2 ∷ [])
   pub input : Enters (Input 1 (by_tag (codes "p")) (codes "v") ∷ []) clicked (called 303 2 ∷ [])
-  -- the line finds its target before it sets the value, and the next one by the value that is there then: nothing
-  pub own_selector : answers_of (record given_value { lines = Input 1 (by_value (codes "a")) (codes "b") ∷ Input 2 (by_value (codes "a")) (codes "c") ∷ [] }) reads_value
-      ≡ Some (done ∷ tells_text (codes "b") ∷ [])
+  -- an input line finds its target before it sets the value, and then sends an event that bubbles and isn't cancelable; the next one goes by the
+  -- value that is there then, and takes nothing
+  pub own_selector : answers_of (record given_value { lines = inputs_value 1 (codes "b") ∷ inputs_value 2 (codes "c") ∷ [] }) reads_value
+      ≡ Some (done ∷ tells_text (codes "b") ∷ tells_text (codes "input") ∷ tells_flag false ∷ tells_flag true ∷ tells_flag true ∷ tells (value.Thing p) ∷ [])
+  -- a click bubbles and is cancelable
+  pub click_line : answers_of (with_lines (clicks_p 1 ∷ [])) (asks_event (codes "click"))
+      ≡ Some (done ∷ tells_text (codes "click") ∷ tells_flag true ∷ tells_flag true ∷ tells_flag true ∷ tells (value.Thing p) ∷ [])
   -- a line whose selector takes nothing is a task all the same
   pub missed : Does (Click 3 (by_id (codes "none")) ∷ []) quiet (task.Line 3 ∷ [])
   -- p is clicked and removed, then it is missed, and then the div is clicked: what Gecko printed
@@ -436,7 +448,8 @@ pub record RunFacts : Type 0 where
   pub trusted : answers_of (with_lines (Click 1 (by_id (codes "p")) ∷ Event 2 (by_tag (codes "body")) (codes "go") ∷ [])) dispatches_again
       ≡ Some (done ∷ done ∷ tells_flag true ∷ tells_flag false ∷ tells_flag false ∷ [])
   -- an event by its name bubbles, and is cancelable and trusted; two lines are missed: what Gecko printed
-  pub event_line : answers_of (record given_two { lines = sends_kind 3 (codes "d") ∷ sends_kind 4 (codes "zz") ∷ Click 5 (by_id (codes "zz")) ∷ [] }) asks_event
+  pub event_line : answers_of (record given_two { lines = sends_kind 3 (codes "d") ∷ sends_kind 4 (codes "zz") ∷ Click 5 (by_id (codes "zz")) ∷ [] })
+      (asks_event (codes "my-kind"))
       ≡ Some (done ∷ tells_text (codes "my-kind") ∷ tells_flag true ∷ tells_flag true ∷ tells_flag true ∷ tells (value.Thing d) ∷ [])
   -- at most four dispatches of an actor are unfinished: the fifth is refused, so the listener is called four times
   pub four : Enters [] nests (called 300 0 ∷ called 300 1 ∷ called 300 2 ∷ called 300 3 ∷ [])

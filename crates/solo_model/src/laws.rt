@@ -3,7 +3,7 @@
 ghost use Rattle.std.specs.Prelude.{◌≡◌, ◌≤◌, ◌⊎◌, ◌++◌, List, [], None, ℕ, take, true};
 ghost use Rattle.std.specs.List.{list_any};
 ghost use Rattle.dom_semantics.specs.HostCells.{HasNoHostCells};
-ghost use Rattle.dom_semantics.specs.Stage.{Setting};
+ghost use Rattle.dom_semantics.specs.Stage.{IsSetting, Setting};
 ghost use Rattle.dom_semantics.specs.StageOf.{stage_of};
 ghost use Rattle.dom_semantics.specs.Things.{is_thing};
 ghost use Rattle.door.specs.declared.marks.Mark.{Mark};
@@ -18,7 +18,7 @@ ghost use Rattle.door.specs.declared.values.Thing.{Thing};
 ghost use Rattle.solo_model.specs.Acts as acts;
 ghost use Rattle.solo_model.specs.Closed.{ActsAreSolo, IsClosed, Setups, closed_deeds, closed_front, closed_view};
 ghost use Rattle.solo_model.specs.Genuine.{IsGenuine};
-ghost use Rattle.solo_model.specs.Given.{Given, setting_of};
+ghost use Rattle.solo_model.specs.Given.{Given, IsGiven, setting_of};
 ghost use Rattle.solo_model.specs.Naming.{Met, Object, is_object, named, object_spot};
 ghost use Rattle.solo_model.specs.Nesting.{progress_of};
 ghost use Rattle.solo_model.specs.NextMark.{IsCutByTasks, IsLawful, IsLawfulSoFar, waiting_task};
@@ -70,6 +70,11 @@ pub fn lawful_journals_end()
     ensures unfinished { (given : Given) (marks : List Mark) → IsLawful given marks → (progress_of marks).unfinished ≡ [] }
     ensures cut { (given : Given) (marks : List Mark) → IsLawful given marks
         → (waiting_task given (stage_of (setting_of given marks) marks) (progress_of marks) ≡ None) ⊎ IsCutByTasks given marks }
+{}
+
+/// Lines have their turns in order, so what a run's stage is given is right with the clocks of its journal too.
+pub fn no_line_sets_the_clock_back()
+    ensures { (given : Given) (marks : List Mark) → IsGiven given → IsLawfulSoFar given marks → IsSetting (setting_of given marks) }
 {}
 
 /// No mark of a genuine journal names a cell of the host. So its number, by which an actor's own cells go in its view, is free for that.

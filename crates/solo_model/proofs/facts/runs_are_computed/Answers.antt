@@ -35,6 +35,7 @@ returns c = record {
   stopped = refl;
   input = refl;
   own_selector = refl;
+  click_line = refl;
   missed = refl;
   removed = refl;
   first_that_fits = refl;

@@ -91,6 +91,8 @@ returns c = record {
   not_for_page = refl;
   free = refl;
   busy = refl;
+  dispatch = record { fits = refl; there = refl; free = refl };
+  no_such_event = λ h. true≢false (sym h.there);
   not_while_busy = λ h. true≢false (ap is_some h.free);
   no_build = λ h. true≢false (sym h);
   xrays = refl;
@@ -126,6 +128,15 @@ returns c = record {
     tells = refl;
   };
   not_absent = λ h. some_length (h.answered.told refl refl);
+  no_keys = record {
+    possible = refl;
+    answered = record {
+      denied = refl;
+      told = λ xray closed. record { levels = LEVELS; machine = fresh (setups (actor 1)); back = waits_no_more; waits = refl; shown = refl };
+    };
+    names = refl;
+    tells = refl;
+  };
   denied = record {
     possible = refl;
     answered = record { denied = refl; told = λ xray closed. absurd (true≢false (sym xray)) };
@@ -146,10 +157,17 @@ returns c = record {
   no_cell_built = λ h. true≢false (sym h.1);
   no_cell_entered = λ h. true≢false (sym h.1);
   owned = (tt, refl);
+  not_given = refl;
   named = refl;
   served = record { fits = refl; there = refl; keys = refl; named = refl };
   not_on_itself = λ h. true≢false (sym h.fits);
   not_of_it = λ h. true≢false (sym h.fits);
+  not_named = λ h. true≢false (sym h.named);
+  named_then = record { fits = refl; there = refl; keys = refl; named = refl };
+  told = record { kind = refl; there = refl; keys = refl; named = refl };
+  not_absent_there = λ h. true≢false (sym h.kind);
+  not_there = λ h. true≢false (sym h.there);
+  not_told = λ h. true≢false (sym h.named);
   defined = record { fits = refl; there = refl; keys = refl; named = refl };
   not_on_window = λ h. true≢false (sym h.fits);
 }

@@ -141,10 +141,12 @@ returns c = record {
   not_for_page = λ h. true≢false (sym h.possible);
   not_of_own = λ h. true≢false (sym h.answered.0);
   xray_again = refl;
+  not_callable_first = refl;
   not_callable = refl;
   not_own = refl;
   no_scope = refl;
   exported = (400, refl);
+  exported_to_thing = (400, refl);
   kept_in = λ h. true≢false (sym (ap is_waived_value h.1));
   created = (400, refl);
   primitive = refl;
@@ -153,6 +155,8 @@ returns c = record {
   function_refused = λ h. true≢false (ap is_value h);
   thing = refl;
   thing_wrapped = refl;
+  waived_thing = refl;
+  own_error = refl;
   foreign = refl;
   copied = inl (400, refl);
   inside = inr (record { fault = codes "IsFunction"; first = ToKey (codes "a"); later = ToPlace 1 ∷ []; within = refl; known = refl; same = refl });
@@ -168,10 +172,13 @@ returns c = record {
   scope_given = scope_given;
   not_created = refl;
   waives_cell = record { possible = refl; answered = (refl, inr refl); names = refl; tells = refl };
+  not_twice = λ h. true≢false (sym h.answered.0);
   own_again = refl;
   text_again = refl;
   stopped = record { possible = refl; answered = (refl, inl refl); names = refl; tells = refl };
   not_plain = not_own;
   opened = refl;
+  by_page = refl;
+  where_refused = refl;
   entered = refl;
 }
