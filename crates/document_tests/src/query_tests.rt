@@ -111,7 +111,7 @@ fn lists(
 #[test]
 fn selectors_list_elements_in_tree_order(rt: HostRuntime) -> Result<(), Fail> {
     // Root, selector, what it lists.
-    let rows: [(u32, &str, &[u32]); 47] = [
+    const ROWS: &[(u32, &str, &[u32])] = &[
         (
             0,
             "*",
@@ -167,8 +167,8 @@ fn selectors_list_elements_in_tree_order(rt: HostRuntime) -> Result<(), Fail> {
         (19, "body p", &[]),
     ];
     let tree = grown(&rt, rt.alloc())?;
-    for (root, selector, want) in rows {
-        let right = lists(&rt, rt.alloc(), &tree, root, selector, want);
+    for (root, selector, want) in ROWS {
+        let right = lists(&rt, rt.alloc(), &tree, *root, selector, want);
         assert!(rt; right == Some(true), "{selector} in {root}");
     }
     Ok(())
@@ -184,7 +184,7 @@ fn refused_at(alloc: Global, s: &str) -> Option<u32> {
 
 #[test]
 fn texts_that_spell_no_selector(rt: HostRuntime) {
-    let rows = [
+    const ROWS: &[(&str, u32)] = &[
         ("", 0),
         ("  ", 2),
         ("div >a", 4),
@@ -213,8 +213,8 @@ fn texts_that_spell_no_selector(rt: HostRuntime) {
         ("é(", 1),
         ("p.note !", 7),
     ];
-    for (text, at) in rows {
-        assert_eq!(rt; refused_at(rt.alloc(), text), Some(at), "{text}");
+    for (text, at) in ROWS {
+        assert_eq!(rt; refused_at(rt.alloc(), text), Some(*at), "{text}");
     }
 }
 
@@ -226,7 +226,7 @@ fn found(alloc: Global, tree: &Tree, id: &str) -> Option<Option<u32>> {
 
 #[test]
 fn ids_are_found(rt: HostRuntime) -> Result<(), Fail> {
-    let rows = [
+    const ROWS: &[(&str, Option<u32>)] = &[
         ("top", Some(4)),
         ("a", Some(5)),
         ("s1", Some(7)),
@@ -238,8 +238,8 @@ fn ids_are_found(rt: HostRuntime) -> Result<(), Fail> {
         ("", None),
     ];
     let tree = grown(&rt, rt.alloc())?;
-    for (id, want) in rows {
-        assert_eq!(rt; found(rt.alloc(), &tree, id), Some(want), "{id}");
+    for (id, want) in ROWS {
+        assert_eq!(rt; found(rt.alloc(), &tree, id), Some(*want), "{id}");
     }
     Ok(())
 }
@@ -261,7 +261,7 @@ fn lists_tag(
 #[test]
 fn tags_are_found(rt: HostRuntime) -> Result<(), Fail> {
     // Root, tag, what it lists.
-    let rows: [(u32, &str, &[u32]); 6] = [
+    const ROWS: &[(u32, &str, &[u32])] = &[
         (
             0,
             "*",
@@ -276,8 +276,8 @@ fn tags_are_found(rt: HostRuntime) -> Result<(), Fail> {
         (19, "p", &[20]),
     ];
     let tree = grown(&rt, rt.alloc())?;
-    for (root, tag, want) in rows {
-        let right = lists_tag(&rt, rt.alloc(), &tree, root, tag, want);
+    for (root, tag, want) in ROWS {
+        let right = lists_tag(&rt, rt.alloc(), &tree, *root, tag, want);
         assert!(rt; right == Some(true), "{tag} in {root}");
     }
     Ok(())

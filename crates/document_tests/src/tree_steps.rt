@@ -241,11 +241,15 @@ pub(crate) fn run(rt: &impl Abort, alloc: Global, tree: &mut Tree, steps: &[Step
     }
 }
 
-/// Goes through runs on a tree of their own, one after the other.
-pub(crate) fn run_all(rt: &impl Abort, alloc: Global, runs: &[&[Step<'_>]]) -> Result<(), Fail> {
+/// Goes through a run on a tree of its own, after the run that grows it.
+pub(crate) fn run_on(
+    rt: &impl Abort,
+    alloc: Global,
+    grown: &[Step<'_>],
+    steps: &[Step<'_>],
+) -> Result<(), Fail> {
     let mut tree = Tree::new(alloc)?;
-    for steps in runs {
-        run(rt, alloc, &mut tree, steps);
-    }
+    run(rt, alloc, &mut tree, grown);
+    run(rt, alloc, &mut tree, steps);
     Ok(())
 }

@@ -5,7 +5,7 @@ use crate::tree_steps::Step::{
     Attribute, Children, CloneNode, Count, Document, FirstChild, Insert, Make, NextSibling,
     NoAttribute, Parent, Remove, Set, Text, Unset, Write,
 };
-use crate::tree_steps::{Done, HOST, Made, PAGE, Step, run, run_all};
+use crate::tree_steps::{Done, HOST, Made, PAGE, Step, run, run_on};
 use dom_tree::{Tree, TreeFault};
 use door::Actor;
 use std::alloc::Global;
@@ -39,7 +39,7 @@ const GROWN: &[Step<'static>] = &[
 
 #[test]
 fn insertions_are_refused_in_order(rt: HostRuntime) -> Result<(), Fail> {
-    let steps = [
+    const STEPS: &[Step<'static>] = &[
         Insert(4, 6, None, HIERARCHY),
         Insert(6, 4, None, HIERARCHY),
         Insert(2, 1, None, HIERARCHY),
@@ -60,7 +60,7 @@ fn insertions_are_refused_in_order(rt: HostRuntime) -> Result<(), Fail> {
         Remove(3, 5, OK),
         Parent(5, None),
     ];
-    run_all(&rt, rt.alloc(), &[GROWN, &steps])
+    run_on(&rt, rt.alloc(), GROWN, STEPS)
 }
 
 /// Two elements, texts and comments.
@@ -81,12 +81,12 @@ fn put(rt: &impl Abort, alloc: Global, parent: u32, child: u32, want: Done) -> R
         Insert(parent, child, None, want),
         Children(parent, children),
     ];
-    run_all(rt, alloc, &[SIX, &steps])
+    run_on(rt, alloc, SIX, &steps)
 }
 
 #[test]
 fn kinds_stand_in_kinds(rt: HostRuntime) -> Result<(), Fail> {
-    let rows = [
+    const ROWS: &[(u32, u32, Done)] = &[
         // In the document.
         (0, 0, HIERARCHY),
         (0, 4, OK),
@@ -108,8 +108,8 @@ fn kinds_stand_in_kinds(rt: HostRuntime) -> Result<(), Fail> {
         (3, 5, HIERARCHY),
         (3, 6, HIERARCHY),
     ];
-    for (parent, child, want) in rows {
-        put(&rt, rt.alloc(), parent, child, want)?;
+    for (parent, child, want) in ROWS {
+        put(&rt, rt.alloc(), *parent, *child, *want)?;
     }
     Ok(())
 }
@@ -127,7 +127,7 @@ const THREE: &[Step<'static>] = &[
 #[test]
 fn children_move_within_their_parent(rt: HostRuntime) -> Result<(), Fail> {
     // The child that moves, before which one, and the children then.
-    let rows = [
+    const ROWS: &[(u32, Option<u32>, [u32; 3])] = &[
         (1, Some(3), [2, 1, 3]),
         (1, None, [2, 3, 1]),
         (1, Some(2), [1, 2, 3]),
@@ -137,16 +137,16 @@ fn children_move_within_their_parent(rt: HostRuntime) -> Result<(), Fail> {
         (3, Some(2), [1, 3, 2]),
         (3, None, [1, 2, 3]),
     ];
-    for (node, before, want) in rows {
-        let steps = [Insert(0, node, before, OK), Children(0, &want)];
-        run_all(&rt, rt.alloc(), &[THREE, &steps])?;
+    for (node, before, want) in ROWS {
+        let steps = [Insert(0, *node, *before, OK), Children(0, want)];
+        run_on(&rt, rt.alloc(), THREE, &steps)?;
     }
     Ok(())
 }
 
 #[test]
 fn nodes_are_copied(rt: HostRuntime) -> Result<(), Fail> {
-    let copies = [
+    const STEPS: &[Step<'static>] = &[
         Set(2, "id", "id"),
         Set(2, "class", "id"),
         CloneNode(HOST, 2, false, Ok(7)),
@@ -162,8 +162,6 @@ fn nodes_are_copied(rt: HostRuntime) -> Result<(), Fail> {
         Children(9, &[10]),
         Children(11, &[12]),
         Children(13, &[]),
-    ];
-    let asked = [
         Attribute(7, 0, "id", "id"),
         Attribute(7, 1, "class", "id"),
         Attribute(9, 0, "id", "id"),
@@ -178,7 +176,7 @@ fn nodes_are_copied(rt: HostRuntime) -> Result<(), Fail> {
         Text(9, Ok("one ")),
         Text(13, Ok("aside")),
     ];
-    run_all(&rt, rt.alloc(), &[GROWN, &copies, &asked])
+    run_on(&rt, rt.alloc(), GROWN, STEPS)
 }
 
 /// A maker makes so many elements.
@@ -191,12 +189,7 @@ fn fill(rt: &impl Abort, alloc: Global, tree: &mut Tree, maker: Actor, count: u3
 
 #[test]
 fn copies_are_counted(rt: HostRuntime) -> Result<(), Fail> {
-    let alloc = rt.alloc();
-    let mut tree = Tree::new(alloc)?;
-    run(&rt, alloc, &mut tree, GROWN);
-    // The host has the document, and the page 6 nodes; a deep copy of node 1 has 5.
-    fill(&rt, alloc, &mut tree, HOST, 99_995);
-    let host = [
+    const OF_HOST: &[Step<'static>] = &[
         CloneNode(HOST, 1, true, TOO_MANY),
         Count(100_002),
         CloneNode(HOST, 1, false, Ok(100_002)),
@@ -205,19 +198,24 @@ fn copies_are_counted(rt: HostRuntime) -> Result<(), Fail> {
         CloneNode(HOST, 1, false, Ok(100_005)),
         CloneNode(HOST, 1, false, TOO_MANY),
     ];
-    run(&rt, alloc, &mut tree, &host);
-    fill(&rt, alloc, &mut tree, PAGE, 99_989);
-    let page = [
+    const OF_PAGE: &[Step<'static>] = &[
         CloneNode(PAGE, 1, true, Ok(199_995)),
         CloneNode(PAGE, 4, true, TOO_MANY),
     ];
-    run(&rt, alloc, &mut tree, &page);
+    let alloc = rt.alloc();
+    let mut tree = Tree::new(alloc)?;
+    run(&rt, alloc, &mut tree, GROWN);
+    // The host has the document, and the page 6 nodes; a deep copy of node 1 has 5.
+    fill(&rt, alloc, &mut tree, HOST, 99_995);
+    run(&rt, alloc, &mut tree, OF_HOST);
+    fill(&rt, alloc, &mut tree, PAGE, 99_989);
+    run(&rt, alloc, &mut tree, OF_PAGE);
     Ok(())
 }
 
 #[test]
 fn nodes_are_asked(rt: HostRuntime) -> Result<(), Fail> {
-    let steps = [
+    const STEPS: &[Step<'static>] = &[
         Count(7),
         Parent(4, Some(2)),
         FirstChild(1, Some(2)),
@@ -233,12 +231,12 @@ fn nodes_are_asked(rt: HostRuntime) -> Result<(), Fail> {
         Text(5, Ok("two")),
         Text(6, Ok("aside")),
     ];
-    run_all(&rt, rt.alloc(), &[GROWN, &steps])
+    run_on(&rt, rt.alloc(), GROWN, STEPS)
 }
 
 #[test]
 fn attributes_keep_their_places(rt: HostRuntime) -> Result<(), Fail> {
-    let steps = [
+    const STEPS: &[Step<'static>] = &[
         Set(2, "id", "x"),
         Set(2, "class", "x"),
         Set(2, "id", "y"),
@@ -248,12 +246,12 @@ fn attributes_keep_their_places(rt: HostRuntime) -> Result<(), Fail> {
         Unset(2, "id", false),
         Attribute(2, 0, "class", "x"),
     ];
-    run_all(&rt, rt.alloc(), &[GROWN, &steps])
+    run_on(&rt, rt.alloc(), GROWN, STEPS)
 }
 
 #[test]
 fn texts_are_replaced(rt: HostRuntime) -> Result<(), Fail> {
-    let steps = [
+    const STEPS: &[Step<'static>] = &[
         Write(6, "y", OK),
         Text(6, Ok("y")),
         Children(6, &[]),
@@ -268,7 +266,7 @@ fn texts_are_replaced(rt: HostRuntime) -> Result<(), Fail> {
         Children(1, &[8]),
         Count(9),
     ];
-    run_all(&rt, rt.alloc(), &[GROWN, &steps])
+    run_on(&rt, rt.alloc(), GROWN, STEPS)
 }
 
 #[test]
@@ -296,7 +294,7 @@ fn texts_are_limited(rt: HostRuntime) -> Result<(), Fail> {
         Text(3, Ok(most)),
         Children(3, &[5]),
     ];
-    run_all(&rt, rt.alloc(), &[GROWN, &steps])
+    run_on(&rt, rt.alloc(), GROWN, &steps)
 }
 
 /// Elements of the page, each below the one before, the first below the document.
@@ -313,10 +311,7 @@ fn chain(rt: &impl Abort, alloc: Global, tree: &mut Tree, length: u32) {
 
 #[test]
 fn depth_is_limited(rt: HostRuntime) -> Result<(), Fail> {
-    let mut tree = Tree::new(rt.alloc())?;
-    // Node n is n steps below the document.
-    chain(&rt, rt.alloc(), &mut tree, 256);
-    let aside = [
+    const ASIDE: &[Step<'static>] = &[
         Make(PAGE, Element("p"), Ok(257)),
         Make(PAGE, Element("p"), Ok(258)),
         Make(PAGE, Element("p"), Ok(259)),
@@ -324,7 +319,7 @@ fn depth_is_limited(rt: HostRuntime) -> Result<(), Fail> {
         Make(PAGE, Comment("p"), Ok(261)),
         Insert(257, 258, None, OK),
     ];
-    let steps = [
+    const STEPS: &[Step<'static>] = &[
         Insert(256, 257, None, TOO_DEEP),
         Insert(256, 259, None, TOO_DEEP),
         Insert(256, 260, None, TOO_DEEP),
@@ -343,8 +338,11 @@ fn depth_is_limited(rt: HostRuntime) -> Result<(), Fail> {
         Write(256, "", OK),
         Write(255, "p", OK),
     ];
-    run(&rt, rt.alloc(), &mut tree, &aside);
-    run(&rt, rt.alloc(), &mut tree, &steps);
+    let mut tree = Tree::new(rt.alloc())?;
+    // Node n is n steps below the document.
+    chain(&rt, rt.alloc(), &mut tree, 256);
+    run(&rt, rt.alloc(), &mut tree, ASIDE);
+    run(&rt, rt.alloc(), &mut tree, STEPS);
     Ok(())
 }
 
@@ -362,6 +360,7 @@ fn chain_without_texts(rt: &impl Abort, alloc: Global, tree: &mut Tree, length: 
 
 #[test]
 fn makers_are_limited(rt: HostRuntime) -> Result<(), Fail> {
+    const OTHER: &[Step<'static>] = &[Count(200_000), Make(Actor(2), Element("p"), Ok(200_000))];
     let alloc = rt.alloc();
     let mut tree = Tree::new(alloc)?;
     // The host has made the document.
@@ -374,8 +373,7 @@ fn makers_are_limited(rt: HostRuntime) -> Result<(), Fail> {
             &[Make(maker, Element("p"), TOO_MANY)],
         );
     }
-    let other = [Count(200_000), Make(Actor(2), Element("p"), Ok(200_000))];
-    run(&rt, alloc, &mut tree, &other);
+    run(&rt, alloc, &mut tree, OTHER);
     chain_without_texts(&rt, alloc, &mut tree, 256);
     run(&rt, alloc, &mut tree, &[Write(256, "", OK)]);
     Ok(())
