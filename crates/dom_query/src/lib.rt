@@ -9,8 +9,6 @@ mod parse;
 mod queries;
 mod selector;
 mod state;
-#[cfg(test)]
-mod tests;
 mod walk;
 
 pub use fault::SelectorFault;

@@ -19,6 +19,8 @@ use Rattle.door.specs.declared.requests.Request.{Request}
 use Rattle.door.specs.declared.requests.Request.TheVariants.{Native, Peek, PeekKeys, Reach}
 use Rattle.door.specs.declared.requests.ReachOp.{ReachOp}
 use Rattle.door.specs.declared.requests.ReachOp.TheVariants as reach
+use Rattle.door.specs.declared.requests.ServeOp.{ServeOp}
+use Rattle.door.specs.declared.requests.ServeOp.TheVariants as serve
 use Rattle.door.specs.declared.requests.ErrorKind.{ErrorKind}
 use Rattle.door.specs.declared.requests.ErrorKind.TheVariants as error
 use Rattle.dom_semantics.specs.Bounds.{is_short, is_safe}
@@ -342,9 +344,14 @@ is_object_of owner (value.Cell holder place shape waived) = is_actor holder owne
 is_object_of owner (value.WaivedThing thing) = is_actor owner PAGE
 is_object_of owner v = false
 
+-- or the window as any script sees it, where something is defined on the page's own (MDN, exportFunction and createObjectIn, defineAs)
+abbrev pub is_scope_of : Actor → Value → ServeOp → Bool
+is_scope_of owner (value.Thing thing) (serve.Define key v) = is_actor owner PAGE && is_thing the_window thing
+is_scope_of owner object operation = false
+
 -- an actor has another one do something to an object of that one's
-abbrev pub is_serve : Actor → Actor → Value → Bool
-is_serve i owner object = is_look_of i owner && is_object_of owner object
+abbrev pub is_serve : Actor → Actor → Value → ServeOp → Bool
+is_serve i owner object operation = is_look_of i owner && (is_object_of owner object || is_scope_of owner object operation)
 
 -- ---- ways out of the sandbox
 

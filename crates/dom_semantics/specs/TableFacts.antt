@@ -16,6 +16,7 @@ use Rattle.door.specs.declared.requests.ReachOp.{ReachOp}
 use Rattle.door.specs.declared.requests.ReachOp.TheVariants as reach
 use Rattle.door.specs.declared.requests.Request.{Request}
 use Rattle.door.specs.declared.requests.Request.TheVariants.{Native, Peek, PeekKeys, Reach}
+use Rattle.door.specs.declared.requests.ServeOp.{ServeOp}
 use Rattle.door.specs.declared.requests.ServeOp.TheVariants as serve
 use Rattle.door.specs.declared.marks.Entry.TheVariants as entry
 use Rattle.door.specs.declared.marks.Mark.TheVariants as mark
@@ -47,6 +48,14 @@ gives v = answer.Value v
 
 abbrev crossing : List ℕ → Answer
 crossing text = answer.Throw (error.Crossing text)
+
+-- ---- operations on another's object
+
+abbrev reads : ServeOp
+reads = serve.Get (codes "k")
+
+abbrev defines : ServeOp
+defines = serve.Define (codes "k") (cell 1 Function true)
 
 -- ---- ways out, asked by the first userscript
 
@@ -157,10 +166,15 @@ pub record TableFacts : Type 0 where
   pub waives : may 3 (reach.Waive window) ≡ true
   pub plain_waives : may 4 (reach.Waive window) ≡ false
   pub page_waives : may 1 (reach.Waive window) ≡ false
-  pub serves : is_serve (actor 2) (actor 1) (cell 1 Plain true) ≡ true
-  pub serves_window : is_serve (actor 2) (actor 1) (value.WaivedThing the_window) ≡ true
-  pub serves_itself : is_serve (actor 2) (actor 2) (cell 2 Plain true) ≡ false
-  pub serves_of_third : is_serve (actor 2) (actor 3) (cell 1 Plain true) ≡ false
+  pub serves : is_serve (actor 2) (actor 1) (cell 1 Plain true) reads ≡ true
+  pub serves_window : is_serve (actor 2) (actor 1) (value.WaivedThing the_window) reads ≡ true
+  pub serves_itself : is_serve (actor 2) (actor 2) (cell 2 Plain true) reads ≡ false
+  pub serves_of_third : is_serve (actor 2) (actor 3) (cell 1 Plain true) reads ≡ false
+  -- `defineAs` defines on the window that was the scope; nothing else is done there, on no other thing, and not by the page
+  pub defines_on_window : is_serve (actor 2) (actor 1) window defines ≡ true
+  pub reads_window : is_serve (actor 2) (actor 1) window reads ≡ false
+  pub defines_on_document : is_serve (actor 2) (actor 1) (value.Thing the_document) defines ≡ false
+  pub page_defines : is_serve (actor 1) (actor 2) window defines ≡ false
   pub none_alone : list_all is_grant_set origin.grants ≡ true
   pub none_with_others : is_grant_set (record plain { unsafe_window = true }) ≡ false
   -- what the host builds: a refusal is a reply, and what fits no row has none

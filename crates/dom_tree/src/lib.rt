@@ -15,8 +15,6 @@ mod limits;
 mod node;
 mod node_changes;
 mod numbers;
-#[cfg(test)]
-mod tests;
 mod text_content;
 mod texts;
 mod tree;

@@ -27,6 +27,9 @@ pub record Builtins : Type 0 where
   -- function f(a, b) { return a + b; } console.log(f.apply(null, [1, 2]));
   pub applied : Does 30 10 (declared (codes "f") (codes "a" ∷ codes "b" ∷ []) (st.Return (Some (ex.Binary binary.Add (name (codes "a")) (name (codes "b")))) ∷ [])
       ∷ say (call (member (name (codes "f")) (codes "apply")) (ex.Null ∷ ex.Array (n 1 ∷ n 2 ∷ []) ∷ [])) ∷ []) (codes "3" ∷ []) Done 20
+  -- function f() { return 7; } console.log(f.apply(null, null));
+  pub applied_to_none : Does 20 10 (declared (codes "f") [] (st.Return (Some (n 7)) ∷ [])
+      ∷ say (call (member (name (codes "f")) (codes "apply")) (ex.Null ∷ ex.Null ∷ [])) ∷ []) (codes "7" ∷ []) Done 14
   -- var a = [1, 2, 3]; a.shift(); a.unshift(4, 5); a.reverse(); console.log(a[0] + a.length);
   pub moved : Does 50 10 (var_ (codes "a") (ex.Array (n 1 ∷ n 2 ∷ n 3 ∷ [])) ∷ do_ (call (member (name (codes "a")) (codes "shift")) []) ∷ do_ (call (member (name (codes "a")) (codes "unshift")) (n 4 ∷ n 5 ∷ []))
       ∷ do_ (call (member (name (codes "a")) (codes "reverse")) []) ∷ say (ex.Binary binary.Add (ex.Index (name (codes "a")) (n 0)) (member (name (codes "a")) (codes "length"))) ∷ []) (codes "7" ∷ []) Done 41

@@ -1,6 +1,8 @@
 -- How an entry goes on with a machine that waits (HTML, 8.1.4 and 8.6; DOM, 2.9). A script's text is read by the token grammar and the
 -- grammar of scripts; where it spells none, the entry is left at once with the first fault, and uses nothing.
-use Rattle.std.specs.Prelude.{◌≡◌, ◌⊎◌, ℕ, List, [], ◌∷◌, codes}
+use Rattle.std.specs.Prelude.{◌≡◌, ◌⊎◌, ◌&&◌, ℕ, Bool, List, [], ◌∷◌, codes}
+use Rattle.door.specs.declared.values.TheConstants.{PAGE}
+use Rattle.door.specs.declared.values.Kind.TheVariants.{Event}
 use Rattle.door.specs.declared.values.Thing.{Thing}
 use Rattle.door.specs.declared.requests.Answer.{Answer}
 use Rattle.door.specs.declared.marks.Entry.TheVariants as entry
@@ -19,10 +21,12 @@ use Rattle.js_syntax.specs.declared.limits.TheConstants.{CHAIN_LIMIT, LEVEL_LIMI
 use Rattle.js_semantics.specs.Machine.{Machine, Refers, Own}
 use Rattle.js_semantics.specs.Solo.{Program, Emits, Stuck, State, Awaits, Leaves, Entering}
 use Rattle.door.specs.declared.limits.TheConstants.{FUEL_LIMIT, LEVEL_LIMIT as CALL_LIMIT}
-use Rattle.js_semantics.specs.Evaluator.{Meaning, bind}
-use Rattle.js_semantics.specs.Requests.{met_row}
+use Rattle.dom_semantics.specs.Fits.{OfTarget, is_receiver}
+use Rattle.dom_semantics.specs.Things.{is_kind}
+use Rattle.js_semantics.specs.Evaluator.{Meaning, bind, choose}
+use Rattle.js_semantics.specs.Meetings.{misfit, met_row}
 use Rattle.js_semantics.specs.Intrinsics.{Setup, fresh}
-use Rattle.js_semantics.specs.Meaning.{with_level, leave, script_entry, timer_entry}
+use Rattle.js_semantics.specs.Meaning.{with_level, leave, at_callback, script_entry, timer_entry}
 
 -- the units of an entry, and the levels of an actor over all its unfinished entries
 abbrev pub FUEL : ℕ
@@ -69,9 +73,17 @@ Refuses text levels m back tree =
     (at : ℕ) × (name : List ℕ) × (HasNoTokens text at name ⊎ HasNoScript text at name) × (tree ≡ Emits (Leaves (Syntax at name) 0) levels m back)
 
 -- a listener is called on the current target with the event; both are met first, also where no level is left for the entry
+abbrev pub called_on : (levels : ℕ) → ℕ → Thing → Thing → Meaning
+called_on levels place event current m f c = met_row event m f (bind (λ event m f. met_row current m f (bind (λ target m f.
+    with_level levels (λ ev. ev.call (Refers (Own place)) target (event ∷ [])) m f c) c)) c)
+
+-- what is listened for is an event, and where, is the window or a node
+abbrev pub is_listened : Thing → Thing → Bool
+is_listened event current = is_kind Event event.kind && is_receiver PAGE OfTarget current
+
 abbrev pub listener_row : (levels : ℕ) → ℕ → Thing → Thing → Meaning
 listener_row levels place event current m f c =
-    met_row event m f (bind (λ event m f. met_row current m f (bind (λ target m f. with_level levels (λ ev. ev.call (Refers (Own place)) target (event ∷ [])) m f c) c)) c)
+    choose (is_listened event current) (λ m f. at_callback place (λ m f c. called_on levels place event current m f c) m f c) misfit m f
 
 abbrev pub listener_entry : (fuel levels : ℕ) → (place : ℕ) → Thing → Thing → Machine → (Machine → Answer → Program Machine) → Program Machine
 listener_entry fuel levels place event current m back = listener_row levels place event current m fuel (leave fuel levels back)

@@ -31,6 +31,9 @@ out_of_range = range_error (codes "out of range")
 abbrev pub text_too_long : Fault
 text_too_long = range_error (codes "text too long")
 
+abbrev pub permission_denied : Fault
+permission_denied = record { name = codes "Error"; message = codes "Permission denied to access property" }
+
 abbrev pub not_defined : List ℕ → Fault
 not_defined name = record { name = codes "ReferenceError"; message = name ++ codes " is not defined" }
 
@@ -57,5 +60,5 @@ refusal_fault kind.TooDeep = range_error (codes "tree too deep")
 refusal_fault kind.TooLong = text_too_long
 refusal_fault kind.Range = out_of_range
 refusal_fault kind.Kind = wrong_kind
-refusal_fault kind.Denied = record { name = codes "Error"; message = codes "Permission denied to access property" }
+refusal_fault kind.Denied = permission_denied
 refusal_fault (kind.Crossing message) = record { name = codes "Error"; message = message }

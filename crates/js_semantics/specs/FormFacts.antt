@@ -37,6 +37,10 @@ pub record Forms : Type 0 where
       (codes "true" ∷ []) (Throw (codes "TypeError: wrong kind of value")) 13
   -- delete x;
   pub deleted_name : Does 20 8 (do_ (ex.Delete (name (codes "x"))) ∷ []) [] (Throw (codes "TypeError: wrong kind of value")) 2
+  -- console.log(delete (5).x);
+  pub deleted_of_number : Does 20 8 (say (ex.Delete (member (n 5) (codes "x"))) ∷ []) (codes "true" ∷ []) Done 8
+  -- delete "abc"[0];
+  pub deleted_of_text : Does 20 8 (do_ (ex.Delete (ex.Index (ex.Str (codes "abc")) (n 0))) ∷ []) [] (Throw (codes "TypeError: wrong kind of value")) 4
   -- var o = {a: 1, a: 2, b: 3}; delete o.a; o.a = 4; for (var k in o) console.log(k);
   pub last : Does 40 8 (var_ (codes "o") (ex.Object (property.Value (codes "a") (n 1) ∷ property.Value (codes "a") (n 2) ∷ property.Value (codes "b") (n 3) ∷ []))
       ∷ do_ (ex.Delete (member (name (codes "o")) (codes "a"))) ∷ do_ (assign (member (name (codes "o")) (codes "a")) (n 4)) ∷ st.ForIn (target.Var (codes "k")) (name (codes "o")) (say (name (codes "k"))) ∷ [])

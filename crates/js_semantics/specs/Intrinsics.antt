@@ -1,7 +1,7 @@
 -- The cells that each actor begins with, in the order of their places: the built-ins as their table lists them, a constructor directly
--- followed by its prototype, then the scripts among them and the interfaces, each followed by its prototype, and then the members of the outside (ECMAScript, 19 to 23;
--- Web IDL, 3.7; the places are this project's own). What isn't built yet takes no place.
-use Rattle.std.specs.Prelude.{ℕ, suc, ◌-◌, ◌+◌, ◌==◌, Bool, true, false, List, [], ◌∷◌, ◌++◌, Option, Some, None, length, replicate, codes, if◌then◌else◌}
+-- followed by its prototype, then the scripts among them and the interfaces, each followed by its prototype, and then the members of the
+-- outside (ECMAScript, 19 to 23; Web IDL, 3.7; the places are this project's own). What isn't built yet takes no place.
+use Rattle.std.specs.Prelude.{ℕ, suc, ◌-◌, ◌+◌, ◌==◌, ◌&&◌, Bool, true, false, List, [], ◌∷◌, ◌++◌, Option, Some, None, length, replicate, codes, if◌then◌else◌}
 use Rattle.door.specs.declared.zones.Zone.{Zone}
 use Rattle.door.specs.declared.zones.Zone.TheVariants.{Page}
 use Rattle.door.specs.declared.grants.GrantSet.{GrantSet}
@@ -12,16 +12,16 @@ use Rattle.js_syntax.specs.declared.tree.Function.{Function}
 use Rattle.js_semantics.specs.Builtin.{Builtin}
 use Rattle.js_semantics.specs.Builtin as b
 use Rattle.js_semantics.specs.Prelude as prelude
-use Rattle.js_semantics.specs.Places.{OBJECT_PROTOTYPE, FUNCTION_PROTOTYPE, ARRAY_PROTOTYPE, ERROR_PROTOTYPE, DOCUMENT_PROTOTYPE, WINDOW_PROTOTYPE, EVENT_PROTOTYPE}
+use Rattle.js_semantics.specs.Places.{OBJECT_PROTOTYPE, FUNCTION_PROTOTYPE, ARRAY_PROTOTYPE, ERROR_PROTOTYPE, EVENT_TARGET_PROTOTYPE, NODE_PROTOTYPE, DOCUMENT_PROTOTYPE, ELEMENT_PROTOTYPE, WINDOW_PROTOTYPE, EVENT_PROTOTYPE}
 use Rattle.js_semantics.specs.Machine.{Machine, Cell, Form, Plain, Closure, Native, Reference, Own, Value, Refers, Property, Datum, Accessor, Slot, undefined, text, CELLS, GLOBAL_PLACE, the_window}
 use Rattle.js_semantics.specs.Properties.{property_in, defined_in}
 
--- where a cell is named: by a key of another cell, as a getter or a setter there, or nowhere
+-- where a cell is named: by a key of another cell, as a getter or a setter there, or by a key where it is granted
 pub data Named : Type 0 where
   Under : (holder : ℕ) (key : List ℕ) → Named
   Getter : (holder : ℕ) (key : List ℕ) → Named
   Setter : (holder : ℕ) (key : List ℕ) → Named
-  Nowhere : Named
+  Granted : Bool → (holder : ℕ) (key : List ℕ) → Named
 
 -- a cell that an actor begins with
 pub record Intrinsic : Type 0 where
@@ -58,7 +58,7 @@ plain = Some (Own OBJECT_PROTOTYPE)
 abbrev global : List ℕ → Builtin → Intrinsic
 global key builtin = function GLOBAL_PLACE key builtin
 
--- a constructor whose prototype is another's; events are only named until they are built
+-- a constructor whose prototype is another's
 abbrev sharing : ℕ → List ℕ → Builtin → Intrinsic
 sharing place key builtin = record (global key builtin) { slots = hidden (codes "prototype") (Refers (Own place)) ∷ [] }
 
@@ -66,7 +66,7 @@ abbrev error_kind : List ℕ → Builtin → Intrinsic
 error_kind key builtin = sharing ERROR_PROTOTYPE key builtin
 
 abbrev custom_event : Intrinsic
-custom_event = sharing EVENT_PROTOTYPE (codes "CustomEvent") b.Interface
+custom_event = sharing EVENT_PROTOTYPE (codes "CustomEvent") (b.Asks member.NewCustomEvent)
 
 -- a function of Array.prototype that is a script
 abbrev written : List ℕ → Function → Intrinsic
@@ -78,8 +78,7 @@ location address = record (object GLOBAL_PLACE (codes "location") plain) { slots
 
 -- a function of Greasemonkey is named where it is granted
 abbrev granted : Bool → List ℕ → Member → Intrinsic
-granted true key name = global key (b.Asks name)
-granted false key name = record (global key (b.Asks name)) { named = Nowhere }
+granted is_granted key name = record (global key (b.Asks name)) { named = Granted is_granted GLOBAL_PLACE key }
 
 -- from place 0: Object (20.1)
 abbrev pub objects : List Intrinsic
@@ -163,67 +162,153 @@ errors =
     ∷ error_kind (codes "ReferenceError") b.ReferenceErrorFunction
     ∷ []
 
--- from place 52: what logs, and the address (Console Standard; HTML, Location; Greasemonkey manual)
+-- from place 52: what logs, the address, and what a userscript keeps (Console Standard; HTML, Location; Greasemonkey manual)
 abbrev pub logs : GrantSet → List ℕ → List Intrinsic
 logs grants address =
     object GLOBAL_PLACE (codes "console") plain
     ∷ function 52 (codes "log") (b.Asks member.ConsoleLog)
     ∷ location address
     ∷ granted grants.log (codes "GM_log") member.GmLog
+    ∷ granted grants.get_value (codes "GM_getValue") member.GmGetValue
+    ∷ granted grants.set_value (codes "GM_setValue") member.GmSetValue
+    ∷ granted grants.delete_value (codes "GM_deleteValue") member.GmDeleteValue
+    ∷ granted grants.list_values (codes "GM_listValues") member.GmListValues
     ∷ []
 
--- from place 56: the functions of Array.prototype that are scripts (23.1.3)
+-- from place 60: the functions of Array.prototype that are scripts (23.1.3)
 abbrev pub scripted : List Intrinsic
 scripted =
     written (codes "forEach") prelude.for_each
-    ∷ prototype_for 56 plain
-    ∷ written (codes "map") prelude.map
-    ∷ prototype_for 58 plain
-    ∷ written (codes "filter") prelude.filter
     ∷ prototype_for 60 plain
-    ∷ written (codes "some") prelude.some
+    ∷ written (codes "map") prelude.map
     ∷ prototype_for 62 plain
-    ∷ written (codes "every") prelude.every
+    ∷ written (codes "filter") prelude.filter
     ∷ prototype_for 64 plain
-    ∷ written (codes "indexOf") prelude.index_of
+    ∷ written (codes "some") prelude.some
     ∷ prototype_for 66 plain
-    ∷ written (codes "slice") prelude.slice
+    ∷ written (codes "every") prelude.every
     ∷ prototype_for 68 plain
-    ∷ written (codes "join") prelude.join
+    ∷ written (codes "indexOf") prelude.index_of
     ∷ prototype_for 70 plain
-    ∷ written (codes "concat") prelude.concat
+    ∷ written (codes "slice") prelude.slice
     ∷ prototype_for 72 plain
+    ∷ written (codes "join") prelude.join
+    ∷ prototype_for 74 plain
+    ∷ written (codes "concat") prelude.concat
+    ∷ prototype_for 76 plain
     ∷ []
 
--- from place 74: the interfaces (DOM, HTML)
+-- from place 78: the interfaces (DOM, HTML); two of them make events
 abbrev pub interfaces : List Intrinsic
 interfaces =
     global (codes "EventTarget") b.Interface
-    ∷ prototype_for 74 plain
+    ∷ prototype_for 78 plain
     ∷ global (codes "Node") b.Interface
-    ∷ prototype_for 76 (Some (Own 75))
+    ∷ prototype_for 80 (Some (Own EVENT_TARGET_PROTOTYPE))
     ∷ global (codes "Document") b.Interface
-    ∷ prototype_for 78 (Some (Own 77))
+    ∷ prototype_for 82 (Some (Own NODE_PROTOTYPE))
     ∷ global (codes "Element") b.Interface
-    ∷ prototype_for 80 (Some (Own 77))
+    ∷ prototype_for 84 (Some (Own NODE_PROTOTYPE))
     ∷ global (codes "CharacterData") b.Interface
-    ∷ prototype_for 82 (Some (Own 77))
+    ∷ prototype_for 86 (Some (Own NODE_PROTOTYPE))
     ∷ global (codes "Window") b.Interface
-    ∷ prototype_for 84 (Some (Own 75))
-    ∷ global (codes "Event") b.Interface
-    ∷ prototype_for 86 plain
+    ∷ prototype_for 88 (Some (Own EVENT_TARGET_PROTOTYPE))
+    ∷ global (codes "Event") (b.Asks member.NewEvent)
+    ∷ prototype_for 90 plain
     ∷ custom_event
     ∷ []
 
--- from place 89: the members of Window and Document (HTML)
-abbrev pub members : List Intrinsic
-members =
+-- from place 93: the members of Window and EventTarget (HTML, The Window object, Timers; DOM, Interface EventTarget)
+abbrev pub window_members : List Intrinsic
+window_members =
     getter WINDOW_PROTOTYPE (codes "document") member.WindowDocument
     ∷ getter WINDOW_PROTOTYPE (codes "window") member.WindowWindow
     ∷ getter WINDOW_PROTOTYPE (codes "self") member.WindowSelf
+    ∷ function WINDOW_PROTOTYPE (codes "setTimeout") (b.Asks member.WindowSetTimeout)
+    ∷ function WINDOW_PROTOTYPE (codes "clearTimeout") (b.Asks member.WindowClearTimeout)
+    ∷ function EVENT_TARGET_PROTOTYPE (codes "addEventListener") (b.Asks member.EventTargetAddEventListener)
+    ∷ function EVENT_TARGET_PROTOTYPE (codes "removeEventListener") (b.Asks member.EventTargetRemoveEventListener)
+    ∷ function EVENT_TARGET_PROTOTYPE (codes "dispatchEvent") (b.Asks member.EventTargetDispatchEvent)
+    ∷ []
+
+-- from place 101: the members of Node (DOM, Interface Node)
+abbrev pub node_members : List Intrinsic
+node_members =
+    getter NODE_PROTOTYPE (codes "nodeType") member.NodeNodeType
+    ∷ getter NODE_PROTOTYPE (codes "nodeName") member.NodeNodeName
+    ∷ getter NODE_PROTOTYPE (codes "parentNode") member.NodeParentNode
+    ∷ getter NODE_PROTOTYPE (codes "firstChild") member.NodeFirstChild
+    ∷ getter NODE_PROTOTYPE (codes "lastChild") member.NodeLastChild
+    ∷ getter NODE_PROTOTYPE (codes "previousSibling") member.NodePreviousSibling
+    ∷ getter NODE_PROTOTYPE (codes "nextSibling") member.NodeNextSibling
+    ∷ getter NODE_PROTOTYPE (codes "ownerDocument") member.NodeOwnerDocument
+    ∷ getter NODE_PROTOTYPE (codes "childNodes") member.NodeChildNodes
+    ∷ function NODE_PROTOTYPE (codes "contains") (b.Asks member.NodeContains)
+    ∷ getter NODE_PROTOTYPE (codes "textContent") member.NodeTextContent
+    ∷ setter NODE_PROTOTYPE (codes "textContent") member.NodeSetTextContent
+    ∷ function NODE_PROTOTYPE (codes "appendChild") (b.Asks member.NodeAppendChild)
+    ∷ function NODE_PROTOTYPE (codes "insertBefore") (b.Asks member.NodeInsertBefore)
+    ∷ function NODE_PROTOTYPE (codes "removeChild") (b.Asks member.NodeRemoveChild)
+    ∷ function NODE_PROTOTYPE (codes "remove") (b.Asks member.NodeRemove)
+    ∷ function NODE_PROTOTYPE (codes "cloneNode") (b.Asks member.NodeCloneNode)
+    ∷ []
+
+-- from place 118: the members of Element, and those that Document has too (DOM, Interface Element, ParentNode)
+abbrev pub element_members : List Intrinsic
+element_members =
+    getter ELEMENT_PROTOTYPE (codes "tagName") member.ElementTagName
+    ∷ getter ELEMENT_PROTOTYPE (codes "id") member.ElementId
+    ∷ setter ELEMENT_PROTOTYPE (codes "id") member.ElementSetId
+    ∷ getter ELEMENT_PROTOTYPE (codes "className") member.ElementClassName
+    ∷ setter ELEMENT_PROTOTYPE (codes "className") member.ElementSetClassName
+    ∷ function ELEMENT_PROTOTYPE (codes "getAttribute") (b.Asks member.ElementGetAttribute)
+    ∷ function ELEMENT_PROTOTYPE (codes "hasAttribute") (b.Asks member.ElementHasAttribute)
+    ∷ function ELEMENT_PROTOTYPE (codes "setAttribute") (b.Asks member.ElementSetAttribute)
+    ∷ function ELEMENT_PROTOTYPE (codes "removeAttribute") (b.Asks member.ElementRemoveAttribute)
+    ∷ getter ELEMENT_PROTOTYPE (codes "children") member.ElementChildren
+    ∷ function ELEMENT_PROTOTYPE (codes "querySelector") (b.Asks member.ElementQuerySelector)
+    ∷ function DOCUMENT_PROTOTYPE (codes "querySelector") (b.Asks member.DocumentQuerySelector)
+    ∷ function ELEMENT_PROTOTYPE (codes "querySelectorAll") (b.Asks member.ElementQuerySelectorAll)
+    ∷ function DOCUMENT_PROTOTYPE (codes "querySelectorAll") (b.Asks member.DocumentQuerySelectorAll)
+    ∷ function ELEMENT_PROTOTYPE (codes "getElementsByTagName") (b.Asks member.ElementGetElementsByTagName)
+    ∷ function DOCUMENT_PROTOTYPE (codes "getElementsByTagName") (b.Asks member.DocumentGetElementsByTagName)
+    ∷ []
+
+-- from place 134: the other members of Document (DOM, Interface Document; HTML, The Document object)
+abbrev pub document_members : List Intrinsic
+document_members =
+    getter DOCUMENT_PROTOTYPE (codes "documentElement") member.DocumentDocumentElement
+    ∷ getter DOCUMENT_PROTOTYPE (codes "head") member.DocumentHead
+    ∷ getter DOCUMENT_PROTOTYPE (codes "body") member.DocumentBody
     ∷ getter DOCUMENT_PROTOTYPE (codes "title") member.DocumentTitle
     ∷ setter DOCUMENT_PROTOTYPE (codes "title") member.DocumentSetTitle
+    ∷ getter DOCUMENT_PROTOTYPE (codes "readyState") member.DocumentReadyState
+    ∷ getter DOCUMENT_PROTOTYPE (codes "URL") member.DocumentUrl
+    ∷ function DOCUMENT_PROTOTYPE (codes "createElement") (b.Asks member.DocumentCreateElement)
+    ∷ function DOCUMENT_PROTOTYPE (codes "createTextNode") (b.Asks member.DocumentCreateTextNode)
+    ∷ function DOCUMENT_PROTOTYPE (codes "createComment") (b.Asks member.DocumentCreateComment)
+    ∷ function DOCUMENT_PROTOTYPE (codes "getElementById") (b.Asks member.DocumentGetElementById)
     ∷ []
+
+-- from place 145: the members of Event (DOM, Interface Event, Interface CustomEvent)
+abbrev pub event_members : List Intrinsic
+event_members =
+    getter EVENT_PROTOTYPE (codes "type") member.EventType
+    ∷ getter EVENT_PROTOTYPE (codes "target") member.EventTarget
+    ∷ getter EVENT_PROTOTYPE (codes "currentTarget") member.EventCurrentTarget
+    ∷ getter EVENT_PROTOTYPE (codes "eventPhase") member.EventEventPhase
+    ∷ getter EVENT_PROTOTYPE (codes "bubbles") member.EventBubbles
+    ∷ getter EVENT_PROTOTYPE (codes "cancelable") member.EventCancelable
+    ∷ getter EVENT_PROTOTYPE (codes "defaultPrevented") member.EventDefaultPrevented
+    ∷ getter EVENT_PROTOTYPE (codes "isTrusted") member.EventIsTrusted
+    ∷ getter EVENT_PROTOTYPE (codes "detail") member.EventDetail
+    ∷ function EVENT_PROTOTYPE (codes "preventDefault") (b.Asks member.EventPreventDefault)
+    ∷ function EVENT_PROTOTYPE (codes "stopPropagation") (b.Asks member.EventStopPropagation)
+    ∷ function EVENT_PROTOTYPE (codes "stopImmediatePropagation") (b.Asks member.EventStopImmediatePropagation)
+    ∷ []
+
+abbrev pub members : List Intrinsic
+members = window_members ++ (node_members ++ (element_members ++ (document_members ++ event_members)))
 
 -- all of them, in the order of their places
 abbrev pub intrinsics : GrantSet → List ℕ → List Intrinsic
@@ -242,7 +327,8 @@ abbrev pub named_in : ℕ → ℕ → Named → List Slot → List Slot
 named_in place i (Under holder key) slots = if holder == place then defined_in slots key (Datum (Refers (Own i)) true false) else slots
 named_in place i (Getter holder key) slots = if holder == place then defined_in slots key (Accessor (Some i) None false) else slots
 named_in place i (Setter holder key) slots = if holder == place then defined_in slots key (with_set i (property_in slots key)) else slots
-named_in place i Nowhere slots = slots
+named_in place i (Granted is_granted holder key) slots =
+    if (holder == place) && is_granted then defined_in slots key (Datum (Refers (Own i)) true false) else slots
 
 -- the properties of the cell at a place, in the order of the cells that it names, the first of which has place i
 abbrev pub slots_from : ℕ → ℕ → List Intrinsic → List Slot → List Slot

@@ -1,11 +1,15 @@
 pub mod Primitives
 pub mod Builtin
 pub mod Machine
+pub mod DoorValues
 pub mod Places
 pub mod Faults
 pub mod Properties
 pub mod Solo
 pub mod Evaluator
+pub mod Meetings
+pub mod Answers
+pub mod Xrays
 pub mod Members
 pub mod Forms
 pub mod Bodies
@@ -16,6 +20,15 @@ pub mod Targets
 pub mod Expressions
 pub mod Statements
 pub mod Requests
+pub mod Arguments
+pub mod WindowRequests
+pub mod TargetRequests
+pub mod NodeRequests
+pub mod ElementRequests
+pub mod DocumentRequests
+pub mod EventRequests
+pub mod GmRequests
+pub mod MemberRows
 pub mod Texts
 pub mod Natives
 pub mod Calls
@@ -34,3 +47,5 @@ pub mod FormFacts
 pub mod BuiltinFacts
 pub mod TextFacts
 pub mod EntryFacts
+pub mod MemberFacts
+pub mod XrayFacts

@@ -4,6 +4,7 @@ use Rattle.door.specs.declared.limits.TheConstants.{CELL_LIMIT}
 use Rattle.std.specs.Prelude.{ℕ, Bool, List, Option, Some, None, slice_get, slice_set, pos, ℤ}
 use Rattle.door.specs.declared.values.Actor.{Actor}
 use Rattle.door.specs.declared.values.Kind.{Kind}
+use Rattle.door.specs.declared.values.Look.{Look}
 use Rattle.door.specs.declared.values.Shape.{Shape}
 use Rattle.door.specs.declared.zones.Zone.{Zone}
 use Rattle.door.specs.declared.zones.Zone.TheVariants.{Page}
@@ -11,11 +12,14 @@ use Rattle.js_syntax.specs.declared.tree.Function.{Function}
 use Rattle.js_semantics.specs.Primitives.{PrimitiveValue, Undefined, Null, BoolPrim, NumberPrim, StrPrim}
 use Rattle.js_semantics.specs.Builtin.{Builtin}
 
--- what a reference names: an own proper cell by its place, the k-th thing that was met, or the k-th object of another that was met
+-- what a reference names: an own proper cell by its place, the k-th thing that was met, or the k-th object of another that was met; and the
+-- latter two as their owner has them (MDN, Xray vision, waiving)
 pub data Reference : Type 0 where
   Own : (place : ℕ) → Reference
   Thing : (k : ℕ) → Reference
   Foreign : (k : ℕ) → Reference
+  WaivedThing : (k : ℕ) → Reference
+  WaivedForeign : (k : ℕ) → Reference
 
 -- a value (ECMAScript, 6.1)
 pub data Value : Type 0 where
@@ -52,14 +56,16 @@ pub record Slot : Type 0 where
   pub property : Property
 
 -- what a cell is: an array has its elements in order, a function its code and the scope around it (none at the top), a built-in function
--- its name, an error its name and message as it was made; a link stands for an object of another where a function is named
+-- its name, an error its name and message as it was made; a forward calls a function of another, by owner and place; a link stands for an
+-- object of another where a function is named
 pub data Form : Type 0 where
   Plain : Form
   Array : (elements : List Value) → Form
   Closure : (code : Function) (scope : Option ℕ) → Form
   Native : Builtin → Form
   Error : (name message : List ℕ) → Form
-  Link : (k : ℕ) → Form
+  Forward : (owner : Actor) (callee : ℕ) → Form
+  Link : Reference → Form
 
 -- a proper cell (ECMAScript, 10.1): its form, its prototype, and its properties in order of insertion
 pub record Cell : Type 0 where
@@ -82,11 +88,11 @@ pub record MetThing : Type 0 where
   pub kind : Kind
   pub slots : List Slot
 
--- an object of another that was met, with the actor's own properties on it
+-- an object of another that was met: how the actor sees it, and the actor's own properties on it
 pub record MetObject : Type 0 where
   pub owner : Actor
   pub shape : Shape
-  pub waived : Bool
+  pub look : Look
   pub slots : List Slot
 
 -- Cells stand under their places; at a place that no cell has yet there is none. Room is how many proper cells, scopes, met things and met
@@ -135,6 +141,12 @@ thing_at m k = slice_get m.things k
 
 abbrev pub with_thing : Machine → ℕ → MetThing → Machine
 with_thing m k thing = record m { things = slice_set m.things k thing }
+
+abbrev pub object_at : Machine → ℕ → Option MetObject
+object_at m k = slice_get m.objects k
+
+abbrev pub with_object : Machine → ℕ → MetObject → Machine
+with_object m k object = record m { objects = slice_set m.objects k object }
 
 abbrev pub scope_at : Machine → ℕ → Option Scope
 scope_at m s = slice_get m.scopes s

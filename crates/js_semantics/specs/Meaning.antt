@@ -10,7 +10,9 @@ use Rattle.js_syntax.specs.declared.tree.Stmt.{Stmt, out-Stmt}
 use Rattle.js_semantics.specs.Primitives.{text_of}
 use Rattle.js_semantics.specs.Machine.{Machine, Cell, Form, Error, Value, Primitive, Refers, Own, cell_at, undefined, the_window}
 use Rattle.js_semantics.specs.Solo.{Program, Emits, Leaves}
-use Rattle.js_semantics.specs.Evaluator.{Done, Throws, Halts, Cont, Meaning, Evaluator, Context, charge}
+use Rattle.js_semantics.specs.Evaluator.{Done, Throws, Halts, Cont, Meaning, Evaluator, Context, charge, choose}
+use Rattle.js_semantics.specs.Meetings.{misfit}
+use Rattle.js_semantics.specs.Operations.{is_own_function}
 use Rattle.js_semantics.specs.Expressions.{expr_row, operand_row, callee_row}
 use Rattle.js_semantics.specs.Statements.{stmt_row}
 use Rattle.js_semantics.specs.Functions.{script_row}
@@ -79,7 +81,13 @@ with_level (suc n) row m f c = row (evaluator n) m f c
 abbrev pub script_entry : (fuel levels : ℕ) → List Stmt → Machine → (Machine → Answer → Program Machine) → Program Machine
 script_entry fuel levels body m back = with_level levels (λ ev. script_row ev body at_top) m fuel (leave fuel levels back)
 
+-- at the place of a callback stands a function, or else nothing is entered
+abbrev pub at_callback : ℕ → Meaning → Meaning
+at_callback place row m f c = choose (is_own_function m (Refers (Own place))) (λ m f. row m f c) misfit m f
+
 -- a timer's function is entered, with nothing (HTML, 8.6)
+abbrev pub timer_row : (levels place : ℕ) → Meaning
+timer_row levels place m f c = at_callback place (λ m f c. with_level levels (λ ev. ev.call (Refers (Own place)) undefined []) m f c) m f c
+
 abbrev pub timer_entry : (fuel levels : ℕ) → (place : ℕ) → Machine → (Machine → Answer → Program Machine) → Program Machine
-timer_entry fuel levels place m back =
-    with_level levels (λ ev. ev.call (Refers (Own place)) undefined []) m fuel (leave fuel levels back)
+timer_entry fuel levels place m back = timer_row levels place m fuel (leave fuel levels back)

@@ -2,9 +2,10 @@
 use Rattle.std.specs.Prelude.{ℕ, zero, suc, ◌+◌, true, List, [], ◌∷◌, ◌++◌, Option, Some, None, length, if◌then◌else◌, is_some}
 use Rattle.std.specs.Str.{bytes_eq}
 use Rattle.js_semantics.specs.Machine.{Machine, Scope, Binding, Value, Refers, Property, Datum, undefined, scope_at, with_scope, global_of}
+use Rattle.js_semantics.specs.Solo.{Stuck}
 use Rattle.js_semantics.specs.Faults.{not_defined}
 use Rattle.js_semantics.specs.Evaluator.{Gives, Ends, Meaning, Evaluator, Context, follow, fails_by}
-use Rattle.js_semantics.specs.Members.{Found, Missing, Stands, Beyond, found, read_row, set_row, define_row, own_property}
+use Rattle.js_semantics.specs.Members.{Found, Missing, Stands, Beyond, find, get_row, set_row, define_row, own_property}
 
 -- ---- a scope's names
 
@@ -65,14 +66,15 @@ missing_throws name m f c = fails_by (not_defined name) c m f
 abbrev pub missing_undefined : List ℕ → Meaning
 missing_undefined name m f c = c (Gives undefined) m f
 
-abbrev pub global_name_row : Evaluator → Meaning → Found → Meaning
-global_name_row ev missing Missing m f c = missing m f c
-global_name_row ev missing (Stands property) m f c = read_row ev (Refers (global_of m)) (Stands property) m f c
-global_name_row ev missing (Beyond k) m f c = read_row ev (Refers (global_of m)) (Beyond k) m f c
+-- a name that the global object has is read by Get
+abbrev pub global_name_row : Evaluator → List ℕ → Meaning → Found → Meaning
+global_name_row ev name missing Missing m f c = missing m f c
+global_name_row ev name missing (Stands property) m f c = get_row ev (Refers (global_of m)) name m f c
+global_name_row ev name missing (Beyond r) m f c = Stuck
 
 abbrev pub bound_name_row : Evaluator → List ℕ → Meaning → Option Bound → Meaning
 bound_name_row ev name missing (Some b) m f c = c (Gives b.value) m f
-bound_name_row ev name missing None m f c = global_name_row ev missing (found m (global_of m) name) m f c
+bound_name_row ev name missing None m f c = find (global_of m) name (λ x m f. global_name_row ev name missing x m f c) c m f
 
 -- a name is read (ECMAScript, 13.1.3)
 abbrev pub name_row : Evaluator → (List ℕ → Meaning) → List ℕ → Context → Meaning
@@ -81,11 +83,11 @@ name_row ev missing name here m f c = bound_name_row ev name (missing name) (bou
 abbrev pub write_global_row : Evaluator → List ℕ → Value → Found → Meaning
 write_global_row ev name value Missing m f c = fails_by (not_defined name) c m f
 write_global_row ev name value (Stands property) m f c = set_row ev (Refers (global_of m)) name value m f c
-write_global_row ev name value (Beyond k) m f c = set_row ev (Refers (global_of m)) name value m f c
+write_global_row ev name value (Beyond r) m f c = Stuck
 
 abbrev pub write_bound_row : Evaluator → List ℕ → Value → Option Bound → Meaning
 write_bound_row ev name value (Some b) m f c = c Ends (with_name m b.scope name value) f
-write_bound_row ev name value None m f c = write_global_row ev name value (found m (global_of m) name) m f c
+write_bound_row ev name value None m f c = find (global_of m) name (λ x m f. write_global_row ev name value x m f c) c m f
 
 -- a name is written (ECMAScript, 6.2.5.6)
 abbrev pub write_name_row : Evaluator → List ℕ → Value → Context → Meaning

@@ -1,18 +1,24 @@
 -- The built-ins, one row for each (ECMAScript, 20 to 23). Each place, element or key that one copies or moves costs a unit, and so does each
 -- started 64 bytes of a text that it answers (this project's own).
 use Rattle.std.specs.Prelude.{ℕ, Bool, true, false, ◌||◌, ◌==◌, ◌-◌, ◌+◌, List, [], ◌∷◌, ◌++◌, Option, Some, None, length, map, take, drop, reverse, is_some, pos, ℤ, int_div, int_lt, unsigned_abs, codes}
+use Rattle.std.specs.Option.{option_map_or}
+use Rattle.door.specs.declared.values.Shape.TheVariants as shape
+use Rattle.door.specs.declared.members.Member.TheVariants as member
 use Rattle.js_semantics.specs.Builtin as b
 use Rattle.js_semantics.specs.Builtin.{Builtin}
 use Rattle.js_semantics.specs.Primitives.{Undefined, Null, BoolPrim, NumberPrim, number_of}
-use Rattle.js_semantics.specs.Machine.{Machine, Cell, Form, Plain, Array, Reference, Own, Value, Primitive, Refers, Property, Datum, Accessor, undefined, null, boolean, number, text, count, cell_at, with_cell}
+use Rattle.js_semantics.specs.Machine.{Machine, Cell, MetObject, Form, Plain, Array, Reference, Own, Foreign, WaivedForeign, Value, Primitive, Refers, Property, Datum, Accessor, undefined, null, boolean, number, text, count, cell_at, with_cell, object_at}
 use Rattle.js_semantics.specs.Places.{OBJECT_PROTOTYPE}
 use Rattle.js_semantics.specs.Solo.{Stuck}
 use Rattle.js_semantics.specs.Faults.{wrong_kind, out_of_range}
 use Rattle.js_semantics.specs.Evaluator.{Gives, Rest, With, Cont, Meaning, Evaluator, bind, follow, choose, charge, made, error_cell, fails_by}
-use Rattle.js_semantics.specs.Members.{own_property, prototype_of, chain_bound, get_row, has_row, define_row, keys_row, key_row}
+use Rattle.js_semantics.specs.Meetings.{misfit, is_shape}
+use Rattle.js_semantics.specs.Xrays.{Use, Shows, ByOwner, use_of}
+use Rattle.js_semantics.specs.Members.{prototype_row, chain_bound, get_row, has_row, has_own_row, define_row, keys_row, key_row}
 use Rattle.js_semantics.specs.Operations.{to_boolean, is_function, is_above, is_same_reference, answer_row}
 use Rattle.js_semantics.specs.Expressions.{array_cell}
-use Rattle.js_semantics.specs.Requests.{text_argument, number_argument, argument, asks_row}
+use Rattle.js_semantics.specs.Requests.{text_argument, number_argument, argument}
+use Rattle.js_semantics.specs.MemberRows.{asks_row}
 use Rattle.js_semantics.specs.Texts.{text_answer, char_at_row, char_code_at_row, index_of_row, slice_row, substring_row, parts_of, parts_units, replace_row, trim_row, case_row, lower, upper, itself_row, this_text}
 
 -- goes on with a reference; a primitive is of the wrong kind
@@ -53,7 +59,7 @@ prototype_value (Some r) = Refers r
 
 -- Object.getPrototypeOf(o) (20.1.2.12)
 abbrev pub get_prototype_row : Value → Meaning
-get_prototype_row value m f c = reference_of value (λ r m f. c (Gives (prototype_value (prototype_of m r))) m f) c m f
+get_prototype_row value m f c = reference_of value (λ r. prototype_row r (λ p. c (Gives (prototype_value p))) c) c m f
 
 -- a chain closes where the new prototype is the object, or has it above
 abbrev pub closes : Machine → Reference → Option Reference → Bool
@@ -70,9 +76,10 @@ set_prototype_row (Refers (Own place)) value m f c = prototype_given value (λ p
     choose (closes m (Own place) p) (fails_by wrong_kind c) (λ m f. with_prototype place p (cell_at m place) m f c) m f) c m f
 set_prototype_row o value m f c = fails_by wrong_kind c m f
 
--- a getter or setter: a function, or undefined for none
+-- a getter or setter: a function, or undefined for none; one of another gets a place where scripts can reach out
 abbrev pub accessor_part : Bool → Value → With (Option ℕ) → Cont → Rest
 accessor_part true (Refers (Own place)) k c = k (Some place)
+accessor_part true (Refers r) k c = misfit
 accessor_part is_a_function (Primitive Undefined) k c = k None
 accessor_part is_a_function value k c = fails_by wrong_kind c
 
@@ -90,7 +97,7 @@ described ev d enumerable false k c m f =
 abbrev pub descriptor_row : Evaluator → Reference → With Property → Cont → Rest
 descriptor_row ev d k c m f =
     get_row ev (Refers d) (codes "enumerable") m f (bind (λ enumerable. has_row d (codes "get") (λ get. has_row d (codes "set") (λ set.
-    described ev (Refers d) (to_boolean enumerable) (get || set) k c))) c)
+    described ev (Refers d) (to_boolean enumerable) (get || set) k c) c) c) c)
 
 -- Object.defineProperty(o, k, d) (20.1.2.4)
 abbrev pub define_property_row : Evaluator → Value → Value → Value → Meaning
@@ -99,8 +106,8 @@ define_property_row ev o key d m f c =
     define_row r key property m f (follow (c (Gives (Refers r))) c)) c) c) c) c m f
 
 -- hasOwnProperty(k) (20.1.3.2)
-abbrev pub has_own_row : Value → Value → Meaning
-has_own_row this key m f c = reference_of this (λ r. key_row key (λ key m f. c (Gives (boolean (is_some (own_property m r key)))) m f) c) c m f
+abbrev pub has_own_property_row : Value → Value → Meaning
+has_own_property_row this key m f c = reference_of this (λ r. key_row key (λ key. has_own_row r key (λ has. c (Gives (boolean has))) c) c) c m f
 
 -- ---- Function (20.2)
 
@@ -124,15 +131,38 @@ with_some None k c = fails_by wrong_kind c
 abbrev pub array_of : Value → With (List Value) → Cont → Rest
 array_of value k c m f = with_some (elements_of m value) k c m f
 
--- apply(t, array) copies the elements of an own array (20.2.3.1)
+-- the elements of an own array are copied; undefined and null stand for none
+abbrev pub list_argument : Value → With (List Value) → Cont → Rest
+list_argument (Primitive Undefined) k c = k []
+list_argument (Primitive Null) k c = k []
+list_argument value k c = array_of value (λ values. charge (length values) (k values) c) c
+
+-- call(t, args) and apply(t, array) (20.2.3.3, 20.2.3.1); a primitive can't be called
+abbrev pub call_row : Evaluator → Value → Value → List Value → Meaning
+call_row ev callee this values m f c = reference_of callee (λ r m f. ev.call (Refers r) this values m f c) c m f
+
 abbrev pub apply_row : Evaluator → Value → Value → Value → Meaning
 apply_row ev callee this array m f c =
-    array_of array (λ values. charge (length values) (λ m f. ev.call callee this values m f c) c) c m f
+    reference_of callee (λ r. list_argument array (λ values m f. ev.call (Refers r) this values m f c) c) c m f
 
 -- ---- Array (23.1)
 
 abbrev pub is_array : Machine → Value → Bool
 is_array m value = is_some (elements_of m value)
+
+abbrev pub object_is_array : Option MetObject → Bool
+object_is_array object = option_map_or (λ (it : MetObject). is_shape it.shape shape.Array) object false
+
+abbrev pub others_array : Use → Bool → With Bool → Rest
+others_array (Shows above) is_one k = k is_one
+others_array ByOwner is_one k = misfit
+others_array way is_one k = k false
+
+-- Array.isArray(x): an own array, or an Xray of one (23.1.2.2)
+abbrev pub is_array_row : Value → With Bool → Rest
+is_array_row (Refers (Foreign j)) k m f = others_array (use_of m (Foreign j)) (object_is_array (object_at m j)) k m f
+is_array_row (Refers (WaivedForeign j)) k m f = Stuck
+is_array_row value k m f = k (is_array m value) m f
 
 abbrev pub elements_in_cell : List Value → Option Cell → ℕ → Machine → Machine
 elements_in_cell elements None place m = m
@@ -247,13 +277,13 @@ native_row ev b.ObjectCreate this values m f c = prototype_given (argument value
 native_row ev b.ObjectGetPrototypeOf this values m f c = get_prototype_row (argument values 0) m f c
 native_row ev b.ObjectSetPrototypeOf this values m f c = set_prototype_row (argument values 0) (argument values 1) m f c
 native_row ev b.ObjectDefineProperty this values m f c = define_property_row ev (argument values 0) (argument values 1) (argument values 2) m f c
-native_row ev b.ObjectHasOwnProperty this values m f c = has_own_row this (argument values 0) m f c
+native_row ev b.ObjectHasOwnProperty this values m f c = has_own_property_row this (argument values 0) m f c
 native_row ev b.ObjectToString this values m f c = text_answer (codes "[object Object]") m f c
 native_row ev b.FunctionFunction this values m f c = fails_by wrong_kind c m f
-native_row ev b.FunctionCall this values m f c = ev.call this (argument values 0) (drop 1 values) m f c
+native_row ev b.FunctionCall this values m f c = call_row ev this (argument values 0) (drop 1 values) m f c
 native_row ev b.FunctionApply this values m f c = apply_row ev this (argument values 0) (argument values 1) m f c
 native_row ev b.ArrayFunction this values m f c = array_made values m f c
-native_row ev b.ArrayIsArray this values m f c = c (Gives (boolean (is_array m (argument values 0)))) m f
+native_row ev b.ArrayIsArray this values m f c = is_array_row (argument values 0) (λ is_one. c (Gives (boolean is_one))) m f
 native_row ev b.ArrayPush this values m f c = push_row this values m f c
 native_row ev b.ArrayPop this values m f c = pop_row this m f c
 native_row ev b.ArrayShift this values m f c = shift_row this m f c
@@ -285,7 +315,7 @@ native_row ev b.TypeErrorFunction this values m f c = error_row (codes "TypeErro
 native_row ev b.RangeErrorFunction this values m f c = error_row (codes "RangeError") (argument values 0) m f c
 native_row ev b.ReferenceErrorFunction this values m f c = error_row (codes "ReferenceError") (argument values 0) m f c
 native_row ev b.ErrorToString this values m f c = error_text_row ev this m f c
-native_row ev (b.Asks name) this values m f c = asks_row name this values m f c
+native_row ev (b.Asks name) this values m f c = asks_row ev name this values m f c
 native_row ev b.Interface this values m f c = fails_by wrong_kind c m f
 
 -- those that `new` only calls
@@ -296,4 +326,6 @@ makes_objects b.ErrorFunction = true
 makes_objects b.TypeErrorFunction = true
 makes_objects b.RangeErrorFunction = true
 makes_objects b.ReferenceErrorFunction = true
+makes_objects (b.Asks member.NewEvent) = true
+makes_objects (b.Asks member.NewCustomEvent) = true
 makes_objects builtin = false

@@ -1,5 +1,6 @@
 -- What the operators do with values (ECMAScript, 13.5 to 13.11): the operators' table on primitives, and identity on references.
-use Rattle.std.specs.Prelude.{ℕ, zero, suc, Bool, true, false, not, List, Option, Some, None, ◌==◌, pos, codes, if◌then◌else◌, Result, Ok, Err}
+use Rattle.std.specs.Prelude.{ℕ, zero, suc, Bool, true, false, not, ◌&&◌, List, Option, Some, None, ◌==◌, pos, codes, if◌then◌else◌, Result, Ok, Err}
+use Rattle.std.specs.Option.{option_map_or}
 use Rattle.base_text.specs.declared.operators.BinaryOp.{BinaryOp}
 use Rattle.base_text.specs.declared.operators.BinaryOp.TheVariants as binary
 use Rattle.base_text.specs.declared.operators.UnaryOp.{UnaryOp}
@@ -7,10 +8,12 @@ use Rattle.base_text.specs.declared.operators.UnaryOp.TheVariants as unary
 use Rattle.js_syntax.specs.declared.tree.UpdateOp.{UpdateOp}
 use Rattle.js_syntax.specs.declared.tree.UpdateOp.TheVariants.{Increment, Decrement}
 use Rattle.js_semantics.specs.Primitives.{PrimitiveValue, StrPrim, NumberPrim, OpFault, binary_of, unary_of, boolean_of}
-use Rattle.js_semantics.specs.Machine.{Machine, Cell, Form, Closure, Native, Reference, Own, Thing, Foreign, Value, Primitive, Refers, cell_at, boolean, text}
+use Rattle.dom_semantics.specs.Fits.{is_function_shape}
+use Rattle.js_semantics.specs.Machine.{Machine, Cell, MetObject, Form, Closure, Native, Forward, Link, Reference, Own, Thing, Foreign, WaivedThing, WaivedForeign, Value, Primitive, Refers, cell_at, object_at, boolean, text}
 use Rattle.js_semantics.specs.Faults.{wrong_kind, operator_fault}
-use Rattle.js_semantics.specs.Evaluator.{Gives, Meaning, Evaluator, bind, charge, text_units, fails_by}
-use Rattle.js_semantics.specs.Members.{prototype_of, chain_bound, get_row, has_row, key_row}
+use Rattle.js_semantics.specs.Evaluator.{Gives, Rest, With, Cont, Meaning, Evaluator, bind, choose, charge, text_units, fails_by}
+use Rattle.js_semantics.specs.Xrays.{use_of, is_by_owner}
+use Rattle.js_semantics.specs.Members.{prototype_of, prototype_row, chain_bound, get_row, has_row, key_row}
 
 -- truth; each reference is true (ECMAScript, 7.1.2)
 abbrev pub to_boolean : Value → Bool
@@ -23,6 +26,8 @@ abbrev pub is_same_reference : Reference → Reference → Bool
 is_same_reference (Own p) (Own q) = p == q
 is_same_reference (Thing j) (Thing k) = j == k
 is_same_reference (Foreign j) (Foreign k) = j == k
+is_same_reference (WaivedThing j) (WaivedThing k) = j == k
+is_same_reference (WaivedForeign j) (WaivedForeign k) = j == k
 is_same_reference r s = false
 
 -- references are the same by identity, and no reference is a primitive
@@ -35,16 +40,26 @@ is_identical x y = false
 abbrev pub form_is_function : Form → Bool
 form_is_function (Closure code scope) = true
 form_is_function (Native builtin) = true
+form_is_function (Forward owner callee) = true
+form_is_function (Link r) = true
 form_is_function form = false
 
 abbrev pub cell_is_function : Option Cell → Bool
 cell_is_function None = false
 cell_is_function (Some cell) = form_is_function cell.form
 
--- an own function; a function of another isn't told from its other objects until scripts reach out
+abbrev pub is_own_function : Machine → Value → Bool
+is_own_function m (Refers (Own place)) = cell_is_function (cell_at m place)
+is_own_function m value = false
+
+abbrev pub object_is_function : Option MetObject → Bool
+object_is_function object = option_map_or (λ (it : MetObject). is_function_shape it.shape) object false
+
+-- an own function, or one of another that its owner calls; by an Xray, and where the actor has no right to it, it's an object
 abbrev pub is_function : Machine → Value → Bool
-is_function m (Refers (Own place)) = cell_is_function (cell_at m place)
-is_function m value = false
+is_function m (Refers (Foreign k)) = is_by_owner (use_of m (Foreign k)) && object_is_function (object_at m k)
+is_function m (Refers (WaivedForeign k)) = object_is_function (object_at m k)
+is_function m value = is_own_function m value
 
 -- ---- what an operator gives
 
@@ -95,7 +110,7 @@ step_row op value m f c = fails_by wrong_kind c m f
 
 -- `in` (ECMAScript, 13.10.1)
 abbrev pub in_row : Value → Value → Meaning
-in_row x (Refers r) m f c = key_row x (λ key. has_row r key (λ has. c (Gives (boolean has)))) c m f
+in_row x (Refers r) m f c = key_row x (λ key. has_row r key (λ has. c (Gives (boolean has))) c) c m f
 in_row x (Primitive prim) m f c = fails_by wrong_kind c m f
 
 abbrev pub is_next : Reference → Option Reference → (Reference → Bool) → Bool
@@ -107,12 +122,22 @@ unfoldable pub is_above : ℕ → Machine → Reference → Reference → Bool
 is_above zero m target r = false
 is_above (suc n) m target r = is_next target (prototype_of m r) (λ next. is_above n m target next)
 
-abbrev pub on_chain_of : Machine → Reference → Value → Bool
-on_chain_of m target (Primitive prim) = false
-on_chain_of m target (Refers r) = is_above (chain_bound m) m target r
+abbrev pub at_next : Reference → Option Reference → With Bool → (Reference → Rest) → Rest
+at_next target None k rest = k false
+at_next target (Some next) k rest = choose (is_same_reference next target) (k true) (rest next)
+
+-- the same where each prototype is read
+unfoldable pub above_row : ℕ → Reference → With Bool → Cont → Reference → Rest
+above_row zero target k c r m f = k false m f
+above_row (suc n) target k c r m f = prototype_row r (λ p. at_next target p k (λ next. above_row n target k c next)) c m f
+
+-- a primitive has no chain
+abbrev pub on_chain_row : Reference → Value → With Bool → Cont → Rest
+on_chain_row target (Primitive prim) k c m f = k false m f
+on_chain_row target (Refers r) k c m f = above_row (chain_bound m) target k c r m f
 
 abbrev pub instance_of : Value → Value → Meaning
-instance_of x (Refers target) m f c = c (Gives (boolean (on_chain_of m target x))) m f
+instance_of x (Refers target) m f c = on_chain_row target x (λ stands. c (Gives (boolean stands))) c m f
 instance_of x (Primitive prim) m f c = fails_by wrong_kind c m f
 
 abbrev pub instance_if : Bool → Evaluator → Value → Value → Meaning
@@ -121,4 +146,4 @@ instance_if false ev x callee m f c = fails_by wrong_kind c m f
 
 -- `instanceof` asks for an own function whose prototype is a reference (ECMAScript, 7.3.22)
 abbrev pub instance_row : Evaluator → Value → Value → Meaning
-instance_row ev x callee m f c = instance_if (is_function m callee) ev x callee m f c
+instance_row ev x callee m f c = instance_if (is_own_function m callee) ev x callee m f c

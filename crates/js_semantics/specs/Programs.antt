@@ -2,7 +2,8 @@
 use Rattle.std.specs.Prelude.{◌≡◌, ℕ, List, [], ◌∷◌, ◌++◌, Option, Some, None, true, false, codes}
 use Rattle.door.specs.declared.zones.Zone.TheVariants.{Page, XrayScript}
 use Rattle.door.specs.declared.values.Value.TheVariants as door
-use Rattle.door.specs.declared.members.Member.TheVariants.{ConsoleLog}
+use Rattle.door.specs.declared.values.Kind.TheVariants.{Event}
+use Rattle.door.specs.declared.members.Member.TheVariants.{ConsoleLog, EventTargetDispatchEvent}
 use Rattle.door.specs.declared.requests.Request.{Request}
 use Rattle.door.specs.declared.requests.Request.TheVariants.{Native}
 use Rattle.door.specs.declared.requests.Answer.{Answer}
@@ -13,8 +14,9 @@ use Rattle.js_syntax.specs.declared.tree.Expr.{Expr}
 use Rattle.js_syntax.specs.declared.tree.Expr.TheVariants as ex
 use Rattle.js_syntax.specs.declared.tree.Stmt.{Stmt}
 use Rattle.js_syntax.specs.declared.tree.Stmt.TheVariants as st
+use Rattle.dom_semantics.specs.Things.{thing_of}
 use Rattle.js_semantics.specs.Machine.{Machine}
-use Rattle.js_semantics.specs.Solo.{Program, Asks, Emits, Stuck, Leaves}
+use Rattle.js_semantics.specs.Solo.{Program, Asks, Emits, Stuck, Dispatches, Leaves}
 use Rattle.js_semantics.specs.Intrinsics.{Setup, fresh}
 use Rattle.js_semantics.specs.Meaning.{script_entry}
 
@@ -55,10 +57,12 @@ pub record Acted : Type 0 where
   pub outcome : Outcome
   pub units : ℕ
 
--- what a tree does when these answers are given, in order
+-- what a tree does when these answers are given, in order; a dispatch counts as the request for it, and its answer is what comes back
 unfoldable pub acted : List Answer → List Request → Program Machine → Option Acted
 acted answers asked (Emits (Leaves outcome units) levels m back) = Some (record { asked = asked; outcome = outcome; units = units })
 acted (answer ∷ answers) asked (Asks request next) = acted answers (asked ++ request ∷ []) (next answer)
+acted (answer ∷ answers) asked (Emits (Dispatches event target) levels m back) =
+    acted answers (asked ++ Native EventTargetDispatchEvent target (door.Thing (thing_of Event event) ∷ []) ∷ []) (back m answer)
 acted answers asked tree = None
 
 -- the page's set-up
@@ -73,10 +77,22 @@ the_page = record {
 abbrev pub a_userscript : Setup
 a_userscript = record the_page { zone = XrayScript; grants = record { no_grant = false; unsafe_window = false; get_value = false; set_value = false; delete_value = false; list_values = false; log = true } }
 
+-- what a script of this set-up does when these answers are given
+abbrev pub acted_in : Setup → (fuel levels : ℕ) → List Stmt → List Answer → Option Acted
+acted_in setup fuel levels body answers = acted answers [] (script_entry fuel levels body (fresh setup) (λ m answer. Stuck))
+
+-- it asks for this
+abbrev pub AsksIn : Setup → (fuel levels : ℕ) → List Stmt → List Answer → List Request → Outcome → (units : ℕ) → Type 0
+AsksIn setup fuel levels body answers asked outcome units =
+    acted_in setup fuel levels body answers ≡ Some (record { asked = asked; outcome = outcome; units = units })
+
 -- a userscript asks for this when it is given these answers
 abbrev pub AsksFor : (fuel levels : ℕ) → List Stmt → List Answer → List Request → Outcome → (units : ℕ) → Type 0
-AsksFor fuel levels body answers asked outcome units =
-    acted answers [] (script_entry fuel levels body (fresh a_userscript) (λ m answer. Stuck)) ≡ Some (record { asked = asked; outcome = outcome; units = units })
+AsksFor fuel levels body answers asked outcome units = AsksIn a_userscript fuel levels body answers asked outcome units
+
+-- these answers are none of a run
+abbrev pub Misfits : (fuel levels : ℕ) → List Stmt → List Answer → Type 0
+Misfits fuel levels body answers = acted_in a_userscript fuel levels body answers ≡ None
 
 -- a script does this on a machine, with so much fuel and so many levels
 abbrev pub DoesIn : Machine → (fuel levels : ℕ) → List Stmt → List (List ℕ) → Outcome → (units : ℕ) → Type 0

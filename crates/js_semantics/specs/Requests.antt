@@ -1,24 +1,28 @@
--- What the members of the outside ask, and what follows each answer (HTML, Window and Document; Console Standard; Greasemonkey manual).
-use Rattle.std.specs.Prelude.{ℕ, zero, suc, Bool, true, false, ◌==◌, List, [], ◌∷◌, ◌++◌, Option, Some, None, length, nat_lt, ℤ, codes}
+-- How a member of the outside is asked for, and what follows its answer (Web IDL, Interfaces; Console Standard; Greasemonkey manual). What an answer
+-- may be is told by the table of requests.
+use Rattle.std.specs.Prelude.{ℕ, zero, suc, Bool, true, false, ◌&&◌, List, [], ◌∷◌, ◌++◌, nat_lt, ℤ, codes}
 use Rattle.base_text.specs.Scalars.{utf8_len}
 use Rattle.base_text.specs.declared.text.TheConstants.{TEXT_LIMIT}
-use Rattle.door.specs.declared.values.Kind.{Kind as ThingKind}
-use Rattle.door.specs.declared.values.Kind.TheVariants.{Window, Document, Element, Str as StrThing, Comment, Event}
+use Rattle.door.specs.declared.values.TheConstants.{PAGE}
 use Rattle.door.specs.declared.values.Thing.{Thing as DoorThing}
 use Rattle.door.specs.declared.values.Value.{Value as DoorValue}
 use Rattle.door.specs.declared.values.Value.TheVariants as door
 use Rattle.door.specs.declared.members.Member.{Member}
-use Rattle.door.specs.declared.members.Member.TheVariants as member
 use Rattle.door.specs.declared.requests.Request.TheVariants.{Native as NativeRequest}
 use Rattle.door.specs.declared.requests.Answer.{Answer}
-use Rattle.door.specs.declared.requests.Answer.TheVariants.{Value as ValueAnswer, Throw as ThrowAnswer}
-use Rattle.door.specs.declared.marks.StopKind.TheVariants.{Cells}
+use Rattle.door.specs.declared.requests.Answer.TheVariants as answer
+use Rattle.dom_semantics.specs.Fits.{Receiver, OfWindow, OfTarget, is_receiver}
+use Rattle.dom_semantics.specs.Things.{thing_of, the_window as window_thing}
 use Rattle.js_semantics.specs.Primitives.{Undefined, NumberPrim, StrPrim, text_of}
-use Rattle.js_semantics.specs.Machine.{Machine, MetThing, Thing, Value, Primitive, Refers, undefined, text, thing_at, global_of}
+use Rattle.js_semantics.specs.Machine.{Machine, Own, Thing, WaivedThing, Value, Primitive, Refers, undefined, global_of}
+use Rattle.js_semantics.specs.DoorValues.{kind_at}
 use Rattle.js_semantics.specs.Solo.{Stuck}
 use Rattle.js_semantics.specs.Faults.{wrong_kind, text_too_long, refusal_fault}
-use Rattle.js_semantics.specs.Evaluator.{Gives, Halts, Rest, With, Cont, Meaning, choose, charge, text_units, ask, fails_by}
+use Rattle.js_semantics.specs.Evaluator.{Gives, Rest, With, Cont, Meaning, choose, charge, text_units, made, ask, fails_by}
+use Rattle.js_semantics.specs.Meetings.{misfit, shown_row, all_shown}
+use Rattle.js_semantics.specs.Answers.{fits_member}
 use Rattle.js_semantics.specs.Operations.{is_same_reference}
+use Rattle.js_semantics.specs.Expressions.{array_cell}
 
 -- ---- texts
 
@@ -44,75 +48,53 @@ argument (value ∷ values) (suc n) = argument values n
 
 -- ---- answers
 
--- what a member's request is answered with, where it isn't refused
-pub data Expected : Type 0 where
-  OfKind : ThingKind → Expected
-  OfText : Expected
-  OfNothing : Expected
+-- What an answer gives: a value, an array of values, of which what is new is met before the array is made, or, where there is no value, this in
+-- its place; or a throw.
+abbrev pub given_row : Value → Answer → Meaning
+given_row missing (answer.Throw reason) m f c = fails_by (refusal_fault reason) c m f
+given_row missing (answer.Value value) m f c = shown_row value m f c
+given_row missing (answer.List values) m f c =
+    all_shown values (λ xs m f. made (array_cell xs) (λ place. c (Gives (Refers (Own place)))) c m f) c m f
+given_row missing answer.Absent m f c = c (Gives missing) m f
+given_row missing a m f c = Stuck
 
-abbrev pub is_kind : ThingKind → ThingKind → Bool
-is_kind Window Window = true
-is_kind Document Document = true
-is_kind Element Element = true
-is_kind StrThing StrThing = true
-is_kind Comment Comment = true
-is_kind Event Event = true
-is_kind a b = false
+-- an answer that the member's row of the table has
+abbrev pub answered_row : Member → Value → Answer → Meaning
+answered_row name missing a m f c = choose (fits_member name a) (λ m f. given_row missing a m f c) misfit m f
 
-abbrev pub misfit : Rest
-misfit m f = Stuck
-
--- a thing of this kind is met, and so much room stays
-abbrev pub met_within : ℕ → ThingKind → Meaning
-met_within room kind m f c =
-    c (Gives (Refers (Thing (length m.things)))) (record m { things = m.things ++ record { kind = kind; slots = [] } ∷ []; room = room }) f
-
--- a new thing is met, where it's the next one
-abbrev pub met_next : ℕ → DoorThing → Meaning
-met_next zero thing m f c = c (Halts Cells) m f
-met_next (suc room) thing m f c = choose (thing.number == length m.things) (λ m f. met_within room thing.kind m f c) misfit m f
-
--- A thing that is answered: one that was met, by its place in the order of meeting, or the next one, which is met now. Where no room is
--- left it isn't met, and from then on no other one: room never grows.
-abbrev pub met_row : DoorThing → Meaning
-met_row thing m f c = choose (nat_lt thing.number (length m.things)) (c (Gives (Refers (Thing thing.number)))) (λ m f. met_next m.room thing m f c) m f
-
-abbrev pub answered_row : Expected → Answer → Meaning
-answered_row expected (ThrowAnswer reason) m f c = fails_by (refusal_fault reason) c m f
-answered_row OfNothing (ValueAnswer door.Undefined) m f c = c (Gives undefined) m f
-answered_row OfText (ValueAnswer (door.Str t)) m f c = c (Gives (text t)) m f
-answered_row (OfKind kind) (ValueAnswer (door.Thing thing)) m f c = choose (is_kind kind thing.kind) (λ m f. met_row thing m f c) misfit m f
-answered_row expected answer m f c = Stuck
+-- a request, and what its answer gives
+abbrev pub request_row : Member → DoorThing → List DoorValue → Value → Meaning
+request_row name thing values missing m f c = ask (NativeRequest name thing values) (λ a m f. answered_row name missing a m f c) c m f
 
 -- ---- what a member is asked of
 
-abbrev pub door_thing : ThingKind → ℕ → DoorThing
-door_thing kind k = record { kind = kind; number = k }
+-- it must be a thing of the interface (Web IDL, Attributes, Operations)
+abbrev pub of_interface : Receiver → DoorThing → With DoorThing → Cont → Rest
+of_interface receiver thing k c = choose (is_receiver PAGE receiver thing) (k thing) (fails_by wrong_kind c)
 
-abbrev pub of_interface : ThingKind → ℕ → Option MetThing → With DoorThing → Cont → Rest
-of_interface kind k None with_thing c = fails_by wrong_kind c
-of_interface kind k (Some thing) with_thing c = choose (is_kind kind thing.kind) (with_thing (door_thing kind k)) (fails_by wrong_kind c)
-
--- `this` must be a thing of the interface
-abbrev pub this_thing : ThingKind → Value → With DoorThing → Cont → Rest
-this_thing kind (Refers (Thing k)) with_thing c m f = of_interface kind k (thing_at m k) with_thing c m f
-this_thing kind value with_thing c m f = fails_by wrong_kind c m f
-
-abbrev pub window_or : Bool → Value → With DoorThing → Cont → Rest
-window_or true value with_thing c = with_thing (door_thing Window 0)
-window_or false value with_thing c = this_thing Window value with_thing c
+-- a waived thing counts as its thing
+abbrev pub this_thing : Receiver → Value → With DoorThing → Cont → Rest
+this_thing receiver (Refers (Thing j)) k c m f = of_interface receiver (thing_of (kind_at m j) j) k c m f
+this_thing receiver (Refers (WaivedThing j)) k c m f = of_interface receiver (thing_of (kind_at m j) j) k c m f
+this_thing receiver value k c m f = fails_by wrong_kind c m f
 
 abbrev pub is_global : Machine → Value → Bool
 is_global m (Primitive Undefined) = true
 is_global m (Primitive prim) = false
 is_global m (Refers r) = is_same_reference r (global_of m)
 
--- for a member of Window undefined and the global object are the window
-abbrev pub this_window : Value → With DoorThing → Cont → Rest
-this_window value with_thing c m f = window_or (is_global m value) value with_thing c m f
+-- for members of Window and EventTarget undefined and the global object are the window
+abbrev pub takes_global : Receiver → Bool
+takes_global OfWindow = true
+takes_global OfTarget = true
+takes_global receiver = false
 
-abbrev pub request_row : Member → DoorThing → List DoorValue → Expected → Meaning
-request_row name thing values expected m f c = ask (NativeRequest name thing values) (λ answer m f. answered_row expected answer m f c) c m f
+abbrev pub window_or : Bool → Receiver → Value → With DoorThing → Cont → Rest
+window_or true receiver value k c = k window_thing
+window_or false receiver value k c = this_thing receiver value k c
+
+abbrev pub receiver_row : Receiver → Value → With DoorThing → Cont → Rest
+receiver_row receiver value k c m f = window_or (takes_global receiver && is_global m value) receiver value k c m f
 
 -- ---- the log
 
@@ -130,20 +112,4 @@ log_texts [] = []
 log_texts (value ∷ values) = spaced (log_text value) values
 
 abbrev pub log_row : Member → List Value → Meaning
-log_row name values m f c =
-    text_made (log_texts values) (λ t m f. request_row name (door_thing Window 0) (door.Str t ∷ []) OfNothing m f c) c m f
-
--- ---- the members
-
--- a getter, a setter or a function of the outside is called
-abbrev pub asks_row : Member → Value → List Value → Meaning
-asks_row member.WindowDocument this values m f c = this_window this (λ thing m f. request_row member.WindowDocument thing [] (OfKind Document) m f c) c m f
-asks_row member.WindowWindow this values m f c = this_window this (λ thing m f. request_row member.WindowWindow thing [] (OfKind Window) m f c) c m f
-asks_row member.WindowSelf this values m f c = this_window this (λ thing m f. request_row member.WindowSelf thing [] (OfKind Window) m f c) c m f
-asks_row member.DocumentTitle this values m f c = this_thing Document this (λ thing m f. request_row member.DocumentTitle thing [] OfText m f c) c m f
-asks_row member.DocumentSetTitle this values m f c = this_thing Document this (λ thing m f.
-    text_argument (argument values 0) (λ t m f. request_row member.DocumentSetTitle thing (door.Str t ∷ []) OfNothing m f c) c m f) c m f
-asks_row member.GmLog this values m f c = log_row member.GmLog (argument values 0 ∷ []) m f c
-asks_row member.ConsoleLog this values m f c = log_row member.ConsoleLog values m f c
--- the other members aren't built yet, and no function asks for one
-asks_row name this values m f c = Stuck
+log_row name values m f c = text_made (log_texts values) (λ t m f. request_row name window_thing (door.Str t ∷ []) undefined m f c) c m f

@@ -6,10 +6,12 @@ ghost use Rattle.js_semantics.specs.EntryFacts.{Entries};
 ghost use Rattle.js_semantics.specs.Facts.{Operators};
 ghost use Rattle.js_semantics.specs.FormFacts.{Forms};
 ghost use Rattle.js_semantics.specs.FunctionFacts.{Functions};
+ghost use Rattle.js_semantics.specs.MemberFacts.{Members};
 ghost use Rattle.js_semantics.specs.RequestFacts.{Requests};
 ghost use Rattle.js_semantics.specs.StatementFacts.{Statements};
 ghost use Rattle.js_semantics.specs.StopFacts.{Stops};
 ghost use Rattle.js_semantics.specs.TextFacts.{TextLimits};
+ghost use Rattle.js_semantics.specs.XrayFacts.{Looks};
 
 /// Sums, texts, remainders, names and throws: what each small program logs, how it ends and the units that it uses.
 pub fn operators_are_computed()
@@ -34,6 +36,18 @@ pub fn stops_are_computed()
 /// What a userscript asks for when it reads and writes the document's title and logs, and the units that it uses.
 pub fn requests_are_computed()
     ensures { Requests }
+{}
+
+/// What a userscript asks for by members of the outside: how their arguments are read, what follows an answer, events that
+/// are dispatched, and answers that lead nowhere.
+pub fn members_are_computed()
+    ensures { Members }
+{}
+
+/// What a userscript does with another's objects: what is shown by an Xray, the script's own properties on it, what is
+/// opaque, and what it has no right to.
+pub fn looks_are_computed()
+    ensures { Looks }
 {}
 
 /// Each prototype that a rule names stands at its place before anything, and the array functions that are scripts run.

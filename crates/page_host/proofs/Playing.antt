@@ -17,7 +17,7 @@ use Rattle.small_forms.specs.declared.page.PageScript.{PageScript}
 use Rattle.small_forms.specs.declared.script.Line.{Line}
 use Rattle.small_forms.specs.declared.userscript.ScriptFile.{ScriptFile}
 use Rattle.small_forms.specs.declared.userscript.Userscript.{Userscript}
-use Rattle.small_forms.specs.Pages.{IsPage, blocks_text, element_text, script_texts}
+use Rattle.small_forms.specs.Pages.{IsPage, blocks_text, element_text, texts_of_scripts}
 use Rattle.small_forms.specs.Scripts.{IsPageScript, IsUserscript}
 use Rattle.js_semantics.specs.Entries.{LEVELS, beginning, enters}
 use Rattle.js_semantics.specs.Intrinsics.{Setup}
@@ -76,7 +76,7 @@ apart address j = among_none (nat_eq j.0 1) (record { zone = PageZone; grants = 
 -- ---- what the scripts of a run are
 
 -- each of these texts is no longer than all of them in their elements
-texts_short : (scripts : List PageScript) (most : ℕ) → length (flat_map element_text scripts) ≤ most → All (λ text. length text ≤ most) (script_texts scripts)
+texts_short : (scripts : List PageScript) (most : ℕ) → length (flat_map element_text scripts) ≤ most → All (λ text. length text ≤ most) (texts_of_scripts scripts)
 texts_short [] most h = tt
 texts_short (script ∷ scripts) most h =
     let whole = length-append (element_text script) (flat_map element_text scripts) in
@@ -85,7 +85,7 @@ texts_short (script ∷ scripts) most h =
     (omega (arith, h, whole, opened, closed), texts_short scripts most (omega (arith, h, whole)))
 
 -- so the scripts of a page are no longer than the page
-page_short : (bytes : List ℕ) (page : Page) → IsPage bytes page → All (λ text. length text ≤ SMALL_PAGE_LIMIT) (script_texts page.scripts)
+page_short : (bytes : List ℕ) (page : Page) → IsPage bytes page → All (λ text. length text ≤ SMALL_PAGE_LIMIT) (texts_of_scripts page.scripts)
 page_short bytes page h =
     let elements = flat_map element_text page.scripts in
     let last = length-append elements (codes "</body></html>") in
@@ -146,10 +146,10 @@ all_solo laws address bytes page scripts marks is_page are_scripts few lawful ge
     let setup = setups_of address i in
     let P : List ℕ → Type 0 = λ text. FitsEntry setup.zone (Script text) in
     let input = input_of page (texts_in scripts) in
-    let pieces = pieces_each P (after_blocks page.blocks) (head_writes page.title ++ block_writes page.blocks) (script_texts page.scripts) (each P (fits laws setup.zone) (script_texts page.scripts) (page_short bytes page is_page)) in
+    let pieces = pieces_each P (after_blocks page.blocks) (head_writes page.title ++ block_writes page.blocks) (texts_of_scripts page.scripts) (each P (fits laws setup.zone) (texts_of_scripts page.scripts) (page_short bytes page is_page)) in
     let starts = each P (fits laws setup.zone) (texts_in scripts) (scripts_short scripts are_scripts) in
     let entries = turns_enter P input [] (tasks_of input) marks (record { pieces = pieces; starts = starts }) lawful in
-    let pieces_are = pieces_length (after_blocks page.blocks) (head_writes page.title ++ block_writes page.blocks) (script_texts page.scripts) in
+    let pieces_are = pieces_length (after_blocks page.blocks) (head_writes page.title ++ block_writes page.blocks) (texts_of_scripts page.scripts) in
     let texts = length-map page.scripts (λ (script : PageScript). script.text) in
     let shown_few = entries_few i at_start marks in
     let are_few : entries_in (shows_of (view_of i marks)) ≤ 1000 = omega (arith, shown_few, entries.few, tasks_length input, pieces_are, texts, is_page.few, texts_few scripts USERSCRIPT_LIMIT few) in

@@ -1,28 +1,18 @@
 //! From the bytes of a page to the pieces that the host builds, and from a node back to its text.
 #![tactic(auto)]
 
-#[cfg(test)]
-mod builds;
 mod elements;
 mod facts;
 mod faults;
 mod front;
-#[cfg(test)]
-mod limit_tests;
 mod pieces;
-#[cfg(test)]
-mod print_tests;
 mod printing;
 mod reader;
 mod scan;
 mod state;
 mod steps;
 mod tags;
-#[cfg(test)]
-mod tests;
 mod values;
-#[cfg(test)]
-mod worked_tests;
 mod writes;
 
 pub use facts::{parts_of_a_page_have_one_reading, some_pages_are_spelled_so};

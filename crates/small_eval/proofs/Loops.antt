@@ -13,7 +13,7 @@ use Rattle.door.specs.declared.marks.Task.TheVariants.{Start, Piece as PieceTask
 use Rattle.dom_semantics.specs.Changes.{is_empty}
 use Rattle.small_forms.specs.declared.limits.TheConstants.{PAGE_SCRIPT_LIMIT}
 use Rattle.small_forms.specs.declared.page.Page.{Page}
-use Rattle.small_forms.specs.Pages.{script_texts}
+use Rattle.small_forms.specs.Pages.{texts_of_scripts}
 use Rattle.solo_model.specs.Closed.{Setups}
 use Rattle.solo_model.specs.Lawful.{AreTurns, Input, Piece, numbered}
 use Rattle.solo_model.specs.Stage.{stage_from, stage_of, start}
@@ -37,7 +37,7 @@ begun_of page = head_writes page.title ++ block_writes page.blocks
 -- at the piece of this number, whose script element comes next
 pub record AtPiece (page : Page) (k : ℕ) (first now : World) : Type 0 where
   pub going : IsGoing (50 + SCRIPT_MARKS * k) (8 + 2 * k) now
-  pub own : length now.own.items ≡ number_at (after_blocks page.blocks) k (script_texts page.scripts)
+  pub own : length now.own.items ≡ number_at (after_blocks page.blocks) k (texts_of_scripts page.scripts)
   pub lawful : (input : Input) → input.pieces ≡ pieces_of page → IsBuilding input (tasks_from PieceTask 0 k) k (begun_at (begun_of page) k) now.journal.marks
   pub idle : (setups : Setups) → (setups the_page).zone ≡ PageZone → AreIdle setups first.journal.marks → AreIdle setups now.journal.marks
 
@@ -59,7 +59,7 @@ blocks_late false = omega arith
 
 -- the body stands before its script elements
 pub body_stands : (page : Page) (k : ℕ) (first now : World) → AtPiece page k first now → 5 < length now.own.items
-body_stands page k first now h = let late = number_late (after_blocks page.blocks) k (script_texts page.scripts) in let six = blocks_late page.blocks in omega (arith, late, six, h.own)
+body_stands page k first now h = let late = number_late (after_blocks page.blocks) k (texts_of_scripts page.scripts) in let six = blocks_late page.blocks in omega (arith, late, six, h.own)
 
 pub piece_room : (page : Page) (k : ℕ) (first now : World) → AtPiece page k first now → k < PAGE_SCRIPT_LIMIT → HasRoom SCRIPT_MARKS 2 now
 piece_room page k first now h less = room_going now (50 + SCRIPT_MARKS * k) (8 + 2 * k) SCRIPT_MARKS 2 h.going (omega (arith, less)) (omega (arith, less))
@@ -72,15 +72,15 @@ script_more text = by (is_empty text) refl
     by false e = rw e (omega arith)
 
 -- a piece ends, and the next begins
-pub piece_step : (page : Page) (k : ℕ) (first old new : World) (text : List ℕ) → AtPiece page k first old → k < length (script_texts page.scripts) → text ≡ slice_index_or (script_texts page.scripts) k [] → HasGone SCRIPT_MARKS (script_nodes text) old new → IsHeaded new.tree
+pub piece_step : (page : Page) (k : ℕ) (first old new : World) (text : List ℕ) → AtPiece page k first old → k < length (texts_of_scripts page.scripts) → text ≡ slice_index_or (texts_of_scripts page.scripts) k [] → HasGone SCRIPT_MARKS (script_nodes text) old new → IsHeaded new.tree
     → ((input : Input) (tasks : List Task) (begun : List Request) → IsBuilding input tasks k begun old.journal.marks → slice_get input.pieces k ≡ Some (record { writes = begun ++ script_writes (length old.own.items) text; script = Some text }) → IsBuilding input (tasks ++ PieceTask k ∷ []) (k + 1) [] new.journal.marks)
     → ((setups : Setups) → (setups the_page).zone ≡ PageZone → AreIdle setups old.journal.marks → AreIdle setups new.journal.marks) → AtPiece page (k + 1) first new
 piece_step page k first old new text h less is gone headed lawful idle =
     let n = after_blocks page.blocks in
     let next : k + 1 ≡ suc k = omega arith in
     let more = own_long old new SCRIPT_MARKS (script_nodes text) gone in
-    let step : number_at n (k + 1) (script_texts page.scripts) ≡ after_script (number_at n k (script_texts page.scripts)) text = ap (λ j. number_at n j (script_texts page.scripts)) next ∙ number_next n k (script_texts page.scripts) less ∙ ap (after_script (number_at n k (script_texts page.scripts))) (sym is) in
-    let nodes = after_nodes (number_at n k (script_texts page.scripts)) text in
+    let step : number_at n (k + 1) (texts_of_scripts page.scripts) ≡ after_script (number_at n k (texts_of_scripts page.scripts)) text = ap (λ j. number_at n j (texts_of_scripts page.scripts)) next ∙ number_next n k (texts_of_scripts page.scripts) less ∙ ap (after_script (number_at n k (texts_of_scripts page.scripts))) (sym is) in
+    let nodes = after_nodes (number_at n k (texts_of_scripts page.scripts)) text in
     let few = script_more text in
     record {
       going = going_more old new (50 + SCRIPT_MARKS * k) (8 + 2 * k) SCRIPT_MARKS (script_nodes text) (50 + SCRIPT_MARKS * (k + 1)) (8 + 2 * (k + 1)) h.going gone headed (omega arith) (omega (arith, few));
@@ -95,7 +95,7 @@ piece_step page k first old new text h less is gone headed lawful idle =
         let Q : ℕ → Type 0 = λ j. IsBuilding input (tasks_from PieceTask 0 k ++ PieceTask k ∷ []) (k + 1) (begun_at (begun_of page) j) new.journal.marks in
         let W : ℕ → List ℕ → Piece = λ m t. record { writes = begun_at (begun_of page) k ++ script_writes m t; script = Some t } in
         let there : slice_get input.pieces k ≡ Some (W (length old.own.items) text) =
-        ap (λ ps. slice_get ps k) e ∙ piece_at (after_blocks page.blocks) (begun_of page) (script_texts page.scripts) k less ∙ ap (λ t. Some (W (number_at (after_blocks page.blocks) k (script_texts page.scripts)) t)) (sym is) ∙ ap (λ m. Some (W m text)) (sym h.own) in
+        ap (λ ps. slice_get ps k) e ∙ piece_at (after_blocks page.blocks) (begun_of page) (texts_of_scripts page.scripts) k less ∙ ap (λ t. Some (W (number_at (after_blocks page.blocks) k (texts_of_scripts page.scripts)) t)) (sym is) ∙ ap (λ m. Some (W m text)) (sym h.own) in
         subst P (sym (tasks_next PieceTask k)) (subst Q (sym next) (lawful input (tasks_from PieceTask 0 k) (begun_at (begun_of page) k) (h.lawful input e) there))
 
 head_few : (title : List ℕ) → length (head_writes title) ≤ 10
@@ -178,15 +178,15 @@ pieces_begun page first world x y e own s same adds idle head blocks headed =
     empty input = no_turns input first.journal.marks (ap (λ (r : Record). r.marks) e)
 
 -- after the last piece
-pub pieces_ended : (page : Page) (k : ℕ) (first now : World) → AtPiece page k first now → k ≡ length (script_texts page.scripts) → (input : Input) → input.pieces ≡ pieces_of page → AreTurns input [] (numbered PieceTask 0 input.pieces) now.journal.marks
+pub pieces_ended : (page : Page) (k : ℕ) (first now : World) → AtPiece page k first now → k ≡ length (texts_of_scripts page.scripts) → (input : Input) → input.pieces ≡ pieces_of page → AreTurns input [] (numbered PieceTask 0 input.pieces) now.journal.marks
 pieces_ended page k first now h all input e =
     let P : List Task → Type 0 = λ tasks. AreTurns input [] tasks now.journal.marks in
     let Q : List Mark → Type 0 = λ ms. AreTurns input [] (tasks_from PieceTask 0 k ++ PieceTask k ∷ []) ms in
     let L : ℕ → Type 0 = λ j. slice_get input.pieces j ≡ Some (record { writes = begun_at (begun_of page) j; script = None }) in
-    let there : slice_get input.pieces k ≡ Some (record { writes = begun_at (begun_of page) k; script = None }) = subst L (sym all) (ap (λ ps. slice_get ps (length (script_texts page.scripts))) e ∙ piece_last (after_blocks page.blocks) (begun_of page) (script_texts page.scripts)) in
+    let there : slice_get input.pieces k ≡ Some (record { writes = begun_at (begun_of page) k; script = None }) = subst L (sym all) (ap (λ ps. slice_get ps (length (texts_of_scripts page.scripts))) e ∙ piece_last (after_blocks page.blocks) (begun_of page) (texts_of_scripts page.scripts)) in
     let done = piece_done input (tasks_from PieceTask 0 k) k (begun_at (begun_of page) k) None now.journal.marks [] (h.lawful input e) there refl in
-    let next : suc (length (script_texts page.scripts)) ≡ k + 1 = omega (arith, all) in
-    let count : length input.pieces ≡ k + 1 = ap (λ (ps : List Piece). length ps) e ∙ pieces_count (after_blocks page.blocks) (begun_of page) (script_texts page.scripts) ∙ next in
+    let next : suc (length (texts_of_scripts page.scripts)) ≡ k + 1 = omega (arith, all) in
+    let count : length input.pieces ≡ k + 1 = ap (λ (ps : List Piece). length ps) e ∙ pieces_count (after_blocks page.blocks) (begun_of page) (texts_of_scripts page.scripts) ∙ next in
     let tasks : numbered PieceTask 0 input.pieces ≡ tasks_from PieceTask 0 k ++ PieceTask k ∷ [] = numbered_all PieceTask 0 input.pieces ∙ ap (tasks_from PieceTask 0) count ∙ tasks_next PieceTask k in
     subst P (sym tasks) (subst Q (append-nil now.journal.marks) done)
 

@@ -24,7 +24,7 @@ use Rattle.door.specs.declared.marks.Mark.{Mark}
 use Rattle.small_forms.specs.declared.script.Part.{Part}
 use Rattle.js_semantics.specs.Solo.{Program}
 use Rattle.js_semantics.specs.Intrinsics.{Setup}
-use Rattle.small_meaning.specs.Rows.{Addition, Bare, Cont, Gives, Lone, Next, Plus, Throws, added, addition_row, argument_units, ask, bind, call_units, charge, follow, joined_row, line_row, lines_row, log_member, log_row, logged_row, part_row, plus_row, sum_row, text_of, text_units, with_nothing, written_row}
+use Rattle.small_meaning.specs.Rows.{Addition, Bare, Cont, Gives, Lone, Next, Plus, Throws, added, addition_row, argument_units, ask, bind, call_units, charge, follow, joined_row, line_row, lines_row, log_member, log_row, logged_row, part_row, plus_row, sum_row, text_of, text_units, with_nothing, with_title, written_row}
 use Rattle.small_meaning.specs.Reached.{HasReached}
 use Rattle.small_eval.specs.Continuations.{ContinuesWithLine, ContinuesWithUnit, Ends, IsSmall, IsText}
 use Rattle.small_eval.specs.declared.exit.Exit.{Exit}
@@ -96,17 +96,17 @@ log_charged zone sum c fuel units e = ap (λ n. charge n (sum_row sum (bind (λ 
 
 -- the units of a logged text, by their number
 pub logged_charged : (zone : Zone) (value : Prim) (text : List ℕ) (c : Cont) (fuel units : ℕ) → text ≡ text_of value → units ≡ text_units text
-    → logged_row zone value c fuel ≡ charge units (ask (Native (log_member zone) the_window (StrValue text ∷ [])) (with_nothing (c Next) c) c) c fuel
+    → logged_row zone value c fuel ≡ charge units (ask (Native (log_member zone) the_window (StrValue text ∷ [])) (with_nothing (c Next)) c) c fuel
 logged_charged zone value text c fuel units t u =
-    ap (λ xs. charge (text_units xs) (ask (Native (log_member zone) the_window (StrValue xs ∷ [])) (with_nothing (c Next) c) c) c fuel) (sym t)
-    ∙ ap (λ n. charge n (ask (Native (log_member zone) the_window (StrValue text ∷ [])) (with_nothing (c Next) c) c) c fuel) (sym u)
+    ap (λ xs. charge (text_units xs) (ask (Native (log_member zone) the_window (StrValue xs ∷ [])) (with_nothing (c Next)) c) c fuel) (sym t)
+    ∙ ap (λ n. charge n (ask (Native (log_member zone) the_window (StrValue text ∷ [])) (with_nothing (c Next)) c) c fuel) (sym u)
 
 -- the same of a text that is written into the title
 pub written_charged : (document : Thing) (value : Prim) (text : List ℕ) (c : Cont) (fuel units : ℕ) → text ≡ text_of value → units ≡ argument_units value
-    → written_row document value c fuel ≡ charge units (ask (Native DocumentSetTitle document (StrValue text ∷ [])) (with_nothing (c Next) c) c) c fuel
+    → written_row document value c fuel ≡ charge units (ask (Native DocumentSetTitle document (StrValue text ∷ [])) (with_title (c Next) c) c) c fuel
 written_charged document value text c fuel units t u =
-    ap (λ xs. charge (argument_units value) (ask (Native DocumentSetTitle document (StrValue xs ∷ [])) (with_nothing (c Next) c) c) c fuel) (sym t)
-    ∙ ap (λ n. charge n (ask (Native DocumentSetTitle document (StrValue text ∷ [])) (with_nothing (c Next) c) c) c fuel) (sym u)
+    ap (λ xs. charge (argument_units value) (ask (Native DocumentSetTitle document (StrValue xs ∷ [])) (with_title (c Next) c) c) c fuel) (sym t)
+    ∙ ap (λ n. charge n (ask (Native DocumentSetTitle document (StrValue text ∷ [])) (with_title (c Next) c) c) c fuel) (sym u)
 
 -- a line ends where its last request does
 pub after_line : (s : Setup) (i : Actor) (marks : List Mark) (fuel : ℕ) (c : Cont) (r : Result (Unit {0}) Exit) → ContinuesWithUnit s i marks fuel (c Next) c r → ContinuesWithLine s i marks fuel c r

@@ -12,7 +12,7 @@ use Rattle.door.specs.declared.requests.Answer.TheVariants.{Value as ValueAnswer
 use Rattle.solo_model.specs.Things.{the_document, the_window}
 use Rattle.js_semantics.specs.Solo.{Program}
 use Rattle.js_semantics.specs.Intrinsics.{Setup}
-use Rattle.small_meaning.specs.Rows.{Bare, Cont, with_document}
+use Rattle.small_meaning.specs.Rows.{Bare, with_document}
 use Rattle.small_meaning.specs.Reached.{HasReached}
 use Rattle.small_eval.specs.Continuations.{NotOutOfMemory, HasMet, MeetsNothing, document_for}
 use Rattle.small_eval.specs.declared.exit.Exit.{Exit}
@@ -72,10 +72,10 @@ keeps_one i old new request given fuel left s e h headed own =
     record { sound = s; asks = (Ask i request given ∷ [], e, asks_one i request given); spent = omega (arith, h, long); headed = headed; own = own }
 
 -- the document that is answered
-pub document_told : (s : Setup) (i : Actor) (marks new : List Mark) (k : Thing → ℕ → Program Bare) (c : Cont) (fuel : ℕ) → met_of i new ≡ meets_answer i (met_of i marks) (ValueAnswer (ThingValue the_document))
-    → HasReached s i new (with_document k c (named_answer i (meets_answer i (met_of i marks) (ValueAnswer (ThingValue the_document))) (ValueAnswer (ThingValue the_document))) fuel)
+pub document_told : (s : Setup) (i : Actor) (marks new : List Mark) (k : Thing → ℕ → Program Bare) (fuel : ℕ) → met_of i new ≡ meets_answer i (met_of i marks) (ValueAnswer (ThingValue the_document))
+    → HasReached s i new (with_document k (named_answer i (meets_answer i (met_of i marks) (ValueAnswer (ThingValue the_document))) (ValueAnswer (ThingValue the_document))) fuel)
     → HasReached s i new (k (document_for i new) fuel)
-document_told s i marks new k c fuel e h = rw e h
+document_told s i marks new k fuel e h = rw e h
 
 -- a request of the window
 pub window_asked : (i : Actor) (marks : List Mark) (member : Member) (values : List Value) (named_values : List Value) → map (named_value i (met_of i marks)) values ≡ named_values → named_request i (met_of i marks) (Native member the_window values) ≡ Native member the_window named_values

@@ -1,22 +1,26 @@
 -- A title that is written leaves the world what its journal makes.
-use Rattle.std.proofs.Common.{◌≡◌, ◌≢◌, ◌∙◌, ap, sym, refl, subst, ℕ, ◌≤◌, ◌+◌, Bool, true, false, List, [], ◌∷◌, arith, length, length-append, length-set, nat_eq, slice_set, Option, Some, None, MatchOption, if◌then◌else◌}
+use Rattle.std.proofs.Common.{◌≡◌, ◌≢◌, ◌∙◌, ap, sym, refl, subst, ℕ, ◌≤◌, ◌+◌, Bool, true, false, List, [], ◌∷◌, arith, length, length-append, length-set, nat_eq, nat_le, nat_lt, not, ◌||◌, slice_set, Option, Some, None, MatchOption, if◌then◌else◌}
 use Prim.Native.Nat.{zero, suc}
 use Rattle.std.proofs.lemmas.Bool.Decides.{nat_tests}
 use Rattle.std.proofs.lemmas.List.{append-nil}
+use Rattle.std.specs.Option.{option_map_or}
 use Rattle.door.specs.declared.values.Actor.{Actor}
 use Rattle.door.specs.declared.values.Value.{Value}
 use Rattle.door.specs.declared.values.Value.TheVariants.{Str as StrValue, Undefined}
 use Rattle.door.specs.declared.members.Member.TheVariants.{DocumentSetTitle}
 use Rattle.door.specs.declared.requests.ErrorKind.{ErrorKind}
+use Rattle.door.specs.declared.requests.ErrorKind.TheVariants.{Limit, TooDeep}
 use Rattle.door.specs.declared.requests.Request.TheVariants.{Native}
 use Rattle.door.specs.declared.requests.Answer.TheVariants.{Value as ValueAnswer, Throw}
 use Rattle.door.specs.declared.marks.Mark.TheVariants.{Ask}
-use Rattle.dom_semantics.specs.Forest.{Form, Root, Tagged, Written, Noted, Forest, Node, form_at, new_node, node_at, the_host}
-use Rattle.dom_semantics.specs.Changes.{created, is_empty, with_text}
+use Rattle.dom_semantics.specs.Forest.{DEPTH_LIMIT, Form, Root, Tagged, Written, Noted, Forest, NODE_LIMIT, Node, depth_of, form_at, is_element, made_by, new_node, node_at, the_host}
+use Rattle.dom_semantics.specs.Changes.{created, is_empty, text_refusal, with_text}
 use Rattle.solo_model.specs.Things.{the_document}
-use Rattle.dom_semantics.specs.Titles.{title_refusal, titled}
+use Rattle.dom_semantics.specs.Titles.{append_refusal, head_element, new_nodes, title_element, title_refusal, titled}
 use Rattle.solo_model.specs.Stage.{stage_of}
 use Rattle.solo_model.specs.Lawful.{numbers_from, own_nodes}
+use Rattle.js_semantics.specs.Solo.{Program}
+use Rattle.small_meaning.specs.Rows.{Bare, Cont, Throws, with_title}
 use Rattle.small_eval.specs.declared.world.World.{World}
 use Rattle.small_eval.specs.Heads.{IsHeaded}
 use Rattle.small_eval.specs.Worlds.{IsReady, IsSound}
@@ -97,3 +101,46 @@ on_none P Q (Some x) e h = absurd cc
 pub on_some : {A : Type 0} (P Q : Type 0) (o : Option A) (x : A) → o ≡ Some x → MatchOption o P (λ _. Q) → Q
 on_some P Q None x e h = absurd cc
 on_some P Q (Some y) x e h = h
+
+-- ---- why it is refused
+
+-- there would be too many nodes, or one too deep
+abbrev IsRefusal : Option ErrorKind → Type 0
+IsRefusal None = Unit {0}
+IsRefusal (Some Limit) = Unit {0}
+IsRefusal (Some TooDeep) = Unit {0}
+IsRefusal (Some reason) = ⊥
+
+refuses_if : (b : Bool) (x y : Option ErrorKind) → IsRefusal x → IsRefusal y → IsRefusal (if b then x else y)
+refuses_if true x y h k = h
+refuses_if false x y h k = k
+
+refuses_text : (f : Forest) (maker : Actor) (n : ℕ) (text : List ℕ) → IsRefusal (text_refusal f maker n text)
+refuses_text f maker n text =
+    let deep = if nat_lt (depth_of f n) DEPTH_LIMIT then None else Some TooDeep in
+    let full = if not (nat_lt (made_by f maker) NODE_LIMIT) then Some Limit else deep in
+    refuses_if (not (is_element (form_at f n)) || is_empty text) None full tt
+    (refuses_if (not (nat_lt (made_by f maker) NODE_LIMIT)) (Some Limit) deep tt (refuses_if (nat_lt (depth_of f n) DEPTH_LIMIT) None (Some TooDeep) tt tt))
+
+refuses_append : (f : Forest) (maker : Actor) (n : ℕ) (text : List ℕ) → IsRefusal (append_refusal f maker n text)
+refuses_append f maker n text =
+    let deep = if not (nat_le (depth_of f n + new_nodes text) DEPTH_LIMIT) then Some TooDeep else None in
+    refuses_if (not (nat_le (made_by f maker + new_nodes text) NODE_LIMIT)) (Some Limit) deep tt
+    (refuses_if (not (nat_le (depth_of f n + new_nodes text) DEPTH_LIMIT)) (Some TooDeep) None tt tt)
+
+refuses_title : (f : Forest) (maker : Actor) (text : List ℕ) → IsRefusal (title_refusal f maker text)
+refuses_title f maker text = by (title_element f) (head_element f)
+  where
+    by : (t h : Option ℕ) → IsRefusal (option_map_or (λ n. text_refusal f maker n text) t (option_map_or (λ n. append_refusal f maker n text) h None))
+    by (Some n) h = refuses_text f maker n text
+    by None (Some n) = refuses_append f maker n text
+    by None None = tt
+
+-- so a script is thrown the refusal that it is told
+pub title_thrown : (f : Forest) (maker : Actor) (text : List ℕ) (reason : ErrorKind) (k : ℕ → Program Bare) (c : Cont) (fuel : ℕ) → title_refusal f maker text ≡ Some reason → with_title k c (Throw reason) fuel ≡ c (Throws reason) fuel
+title_thrown f maker text reason k c fuel e = by reason (subst IsRefusal e (refuses_title f maker text))
+  where
+    by : (reason : ErrorKind) → IsRefusal (Some reason) → with_title k c (Throw reason) fuel ≡ c (Throws reason) fuel
+    by Limit h = refl
+    by TooDeep h = refl
+    by reason h = absurd h

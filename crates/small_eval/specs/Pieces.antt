@@ -9,7 +9,7 @@ use Rattle.door.specs.declared.members.Member.TheVariants.{DocumentCreateElement
 use Rattle.door.specs.declared.requests.Request.{Request}
 use Rattle.door.specs.declared.requests.Request.TheVariants.{Native}
 use Rattle.small_forms.specs.declared.page.Page.{Page}
-use Rattle.small_forms.specs.Pages.{script_texts}
+use Rattle.small_forms.specs.Pages.{texts_of_scripts}
 use Rattle.solo_model.specs.Lawful.{Piece}
 use Rattle.solo_model.specs.Things.{thing_of, the_document}
 
@@ -73,4 +73,4 @@ pieces_from n begun (text ∷ texts) = record { writes = begun ++ script_writes 
 
 -- the pieces of a page
 abbrev pub pieces_of : Page → List Piece
-pieces_of page = pieces_from (after_blocks page.blocks) (head_writes page.title ++ block_writes page.blocks) (script_texts page.scripts)
+pieces_of page = pieces_from (after_blocks page.blocks) (head_writes page.title ++ block_writes page.blocks) (texts_of_scripts page.scripts)

@@ -13,7 +13,7 @@ ghost use Rattle.door.specs.declared.marks.Mark.TheVariants.{Ask as AskMark};
 ghost use Rattle.solo_model.specs.View.{meets_answer, met_of, named_answer, named_request};
 ghost use Rattle.js_semantics.specs.Solo.{Program, Asks};
 ghost use Rattle.js_semantics.specs.Intrinsics.{Setup};
-ghost use Rattle.small_meaning.specs.Rows.{Bare, Cont, ask, document_row, log_member, with_nothing, with_text};
+ghost use Rattle.small_meaning.specs.Rows.{Bare, Cont, ask, document_row, log_member, with_nothing, with_text, with_title};
 ghost use Rattle.small_meaning.specs.Reached.{HasReached};
 ghost use Rattle.small_eval.specs.Continuations.{ContinuesWithUnit, ContinuesWithText, NotOutOfMemory, HasMet, MeetsNothing, document_for};
 ghost use Rattle.small_eval.specs.Worlds.{IsReady, IsSound, PreservesRest};
@@ -120,7 +120,7 @@ pub fn ask_log(
 ) -> Result<(), Exit>
     requires sound { IsSound world.old }
     requires room { length world.old.journal.marks + fuel.old < world.old.journal.limit }
-    ensures own { (s : Setup) (k : ℕ → Program Bare) (c : Cont) → HasReached s actor world.old.journal.marks (ask (Native (log_member zone) the_window (StrValue text.now ∷ [])) (with_nothing k c) c fuel.old)
+    ensures own { (s : Setup) (k : ℕ → Program Bare) (c : Cont) → HasReached s actor world.old.journal.marks (ask (Native (log_member zone) the_window (StrValue text.now ∷ [])) (with_nothing k) c fuel.old)
         → ContinuesWithUnit s actor world.new.journal.marks fuel.new k c result }
     ensures same { NotOutOfMemory result → MeetsNothing actor world.old.journal.marks world.new.journal.marks }
     ensures keeps { NotOutOfMemory result → PreservesRest actor world.old world.new fuel.old fuel.new }
@@ -146,7 +146,7 @@ pub fn ask_set_title(
     requires met { HasMet actor world.old.journal.marks }
     requires room { length world.old.journal.marks + fuel.old < world.old.journal.limit }
     requires limit { world.old.journal.limit < 2 ^ 30 }
-    ensures own { (s : Setup) (k : ℕ → Program Bare) (c : Cont) → HasReached s actor world.old.journal.marks (ask (Native DocumentSetTitle (document_for actor world.old.journal.marks) (StrValue text.now ∷ [])) (with_nothing k c) c fuel.old)
+    ensures own { (s : Setup) (k : ℕ → Program Bare) (c : Cont) → HasReached s actor world.old.journal.marks (ask (Native DocumentSetTitle (document_for actor world.old.journal.marks) (StrValue text.now ∷ [])) (with_title k c) c fuel.old)
         → ContinuesWithUnit s actor world.new.journal.marks fuel.new k c result }
     ensures same { NotOutOfMemory result → MeetsNothing actor world.old.journal.marks world.new.journal.marks }
     ensures keeps { NotOutOfMemory result → PreservesRest actor world.old world.new fuel.old fuel.new }

@@ -12,7 +12,7 @@ use Rattle.small_forms.specs.declared.limits.TheConstants.{PAGE_SCRIPT_LIMIT}
 use Rattle.small_forms.specs.declared.page.Page.{Page}
 use Rattle.small_forms.specs.declared.page.PageScript.{PageScript}
 use Rattle.small_forms.specs.declared.script.Line.{Line}
-use Rattle.small_forms.specs.Pages.{ArePageScripts, IsPage, IsTitle, blocks_text, element_text, script_texts}
+use Rattle.small_forms.specs.Pages.{ArePageScripts, IsPage, IsTitle, blocks_text, element_text, texts_of_scripts}
 use Rattle.small_forms.specs.Readers.{are_ascii}
 use Rattle.small_forms.specs.Scripts.{IsPageScript}
 use Rattle.small_forms.proofs.Forms.{same_front}
@@ -154,7 +154,7 @@ pub are-more : (scripts : List PageScript) (script : PageScript) → ArePageScri
 are-more [] script h is = (is, tt)
 are-more (s ∷ scripts) script h is = (h.0, are-more scripts script h.1 is)
 
-pub scripts_ascii : (scripts : List PageScript) → ArePageScripts scripts → IsTrue (are_ascii (script_texts scripts))
+pub scripts_ascii : (scripts : List PageScript) → ArePageScripts scripts → IsTrue (are_ascii (texts_of_scripts scripts))
 scripts_ascii [] are = refl
 scripts_ascii (script ∷ scripts) are = rw (page_script_ascii script.text script.lines are.0) (scripts_ascii scripts are.1)
 

@@ -18,8 +18,8 @@ ArePageScripts [] = Unit {0}
 ArePageScripts (script ∷ scripts) = IsPageScript script.text script.lines × ArePageScripts scripts
 
 -- the texts in these script elements
-abbrev pub script_texts : List PageScript → List (List ℕ)
-script_texts scripts = map (λ (script : PageScript). script.text) scripts
+abbrev pub texts_of_scripts : List PageScript → List (List ℕ)
+texts_of_scripts scripts = map (λ (script : PageScript). script.text) scripts
 
 -- the paragraph and the division, where the page has them
 abbrev pub blocks_text : Bool → List ℕ

@@ -1,6 +1,6 @@
 //! The form of page that is read until pages are read by the whole page grammar.
 
-ghost use Rattle.small_forms.specs.Pages.{ArePageScripts, IsPage, IsTitle, blocks_text, element_text, script_texts};
+ghost use Rattle.small_forms.specs.Pages.{ArePageScripts, IsPage, IsTitle, blocks_text, element_text, texts_of_scripts};
 ghost use Rattle.small_forms.specs.Readers.{are_ascii};
 ghost use Rattle.small_forms.specs.Scripts.{IsPageScript};
 ghost use Rattle.small_forms.specs.declared.limits.TheConstants.{PAGE_SCRIPT_LIMIT, SMALL_PAGE_LIMIT};
@@ -46,7 +46,7 @@ pub struct Page {
 pub fn page_in(alloc: Global, bytes: &[u8]) -> Mem<Option<Page>>
     ensures some { IfOk result (λ found. IfSome found (λ page. IsPage bytes.now page)) }
     ensures none { IfOk result (λ found. IfNone found ((page : OnePage) → IsPage bytes.now page → ⊥)) }
-    ensures ascii { IfOk result (λ found. IfSome found (λ page. IsTrue (list_all is_ascii page.title) × IsTrue (are_ascii (script_texts page.scripts)))) }
+    ensures ascii { IfOk result (λ found. IfSome found (λ page. IsTrue (list_all is_ascii page.title) × IsTrue (are_ascii (texts_of_scripts page.scripts)))) }
 {
     if bytes.len() > SMALL_PAGE_LIMIT {
         return Ok(None);
@@ -158,5 +158,5 @@ pub fn page_scripts_are_ascii()
 pub fn pages_are_ascii()
     ensures bytes { (bytes : List ℕ) (page : OnePage) → IsPage bytes page → IsTrue (list_all is_ascii bytes) }
     ensures title { (bytes : List ℕ) (page : OnePage) → IsPage bytes page → IsTrue (list_all is_ascii page.title) }
-    ensures scripts { (bytes : List ℕ) (page : OnePage) → IsPage bytes page → IsTrue (are_ascii (script_texts page.scripts)) }
+    ensures scripts { (bytes : List ℕ) (page : OnePage) → IsPage bytes page → IsTrue (are_ascii (texts_of_scripts page.scripts)) }
 {}

@@ -1,3 +1,4 @@
+pub mod Globals
 pub mod Cells
 pub mod Alike
 pub mod Charges

@@ -30,7 +30,7 @@ use Rattle.js_semantics.specs.Intrinsics.{Setup}
 use Rattle.js_semantics.specs.Machine.{Machine, Own, Thing, Value, Refers, Datum, undefined}
 use Rattle.js_semantics.specs.Meaning.{evaluator, at_top, script_entry, thrown_text, with_level}
 use Rattle.js_semantics.specs.Meaning as meaning
-use Rattle.js_semantics.specs.Members.{Stands, chain_bound, found, found_within, read_row}
+use Rattle.js_semantics.specs.Members.{Stands, chain_bound, found, found_within, read_row, reading}
 use Rattle.js_semantics.specs.Names.{declare_vars_row, missing_throws, name_row}
 use Rattle.js_semantics.specs.Requests.{log_row}
 use Rattle.js_semantics.specs.Solo.{Act, Program, Emits, Stuck, Leaves}
@@ -48,10 +48,10 @@ use Rattle.small_meaning.proofs.Alike.{Alike, Ready, Stops, ready_later, ready_l
 use Rattle.small_meaning.proofs.Charges.{charge_split}
 use Rattle.small_meaning.proofs.Documents.{name_found, native_called}
 use Rattle.small_meaning.proofs.Forms.{assign_form, call_form, callee_charged, expr_charged, expression_form, member_form, name_form, stmt_charged}
-use Rattle.small_meaning.proofs.Lookups.{Begins, LogStands, here_own, ready_knows, three}
+use Rattle.small_meaning.proofs.Lookups.{Begins, LogStands, find_stands, here_own, ready_knows, three}
 use Rattle.small_meaning.proofs.Sums.{document_alike, sum_alike}
 use Rattle.small_meaning.proofs.Texts.{AreSoundLines, IsSoundSum, number_text}
-use Rattle.small_meaning.proofs.Titles.{IsWithin, text_made_sent, title_written, value_of}
+use Rattle.small_meaning.proofs.Titles.{IsWithin, console_answered, script_answered, text_made_sent, title_written, value_of}
 
 -- what follows a statement does alike
 abbrev pub EndsAlike : Setup → ℕ → Bool → small.Cont → ev.Cont → Type 0
@@ -95,13 +95,13 @@ title_line setup k least (suc (suc n)) sum c d m f deep h b s r g =
 
 console_log : (setup : Setup) (k : ℕ) (least : Bool) (value : Prim) (c : small.Cont) (d : ev.Cont) (m : Machine) (f : ℕ) → IsWithin 9999 value → Stops setup k least c d → Ready setup least (suc k) m
     → ((left : ℕ) → Alike setup k (c small.Next left) (d (Gives undefined) m left)) → Alike setup k (small.logged_row Page value c f) (log_row ConsoleLog (value_of value ∷ []) m f d)
-console_log setup k least (NumberPrim n) c d m f p s r h = text_made_sent setup k least ConsoleLog the_window (decimal n) c d m f (number_text n (omega (arith, p))) s r h
-console_log setup k least (StrPrim t) c d m f p s r h = text_made_sent setup k least ConsoleLog the_window t c d m f p s r h
+console_log setup k least (NumberPrim n) c d m f p s r h = text_made_sent setup k least ConsoleLog the_window (decimal n) (small.with_nothing (c small.Next)) c d m f (number_text n (omega (arith, p))) s r (console_answered setup k c d m h)
+console_log setup k least (StrPrim t) c d m f p s r h = text_made_sent setup k least ConsoleLog the_window t (small.with_nothing (c small.Next)) c d m f p s r (console_answered setup k c d m h)
 
 gm_log : (setup : Setup) (k : ℕ) (least : Bool) (value : Prim) (c : small.Cont) (d : ev.Cont) (m : Machine) (f : ℕ) → IsWithin 9999 value → Stops setup k least c d → Ready setup least (suc k) m
     → ((left : ℕ) → Alike setup k (c small.Next left) (d (Gives undefined) m left)) → Alike setup k (small.logged_row XrayScript value c f) (log_row GmLog (value_of value ∷ []) m f d)
-gm_log setup k least (NumberPrim n) c d m f p s r h = text_made_sent setup k least GmLog the_window (decimal n) c d m f (number_text n (omega (arith, p))) s r h
-gm_log setup k least (StrPrim t) c d m f p s r h = text_made_sent setup k least GmLog the_window t c d m f p s r h
+gm_log setup k least (NumberPrim n) c d m f p s r h = text_made_sent setup k least GmLog the_window (decimal n) (small.with_nothing (c small.Next)) c d m f (number_text n (omega (arith, p))) s r (script_answered setup k c d m h)
+gm_log setup k least (StrPrim t) c d m f p s r h = text_made_sent setup k least GmLog the_window t (small.with_nothing (c small.Next)) c d m f p s r (script_answered setup k c d m h)
 
 -- the function that logs, and what it is called on
 console_callee : (setup : Setup) (k : ℕ) (least : Bool) (n : ℕ) (rest : With (Value × Value)) (d : ev.Cont) (m : Machine) (f : ℕ) → LogStands Page m → Begins setup → Ready setup least k m
@@ -112,7 +112,8 @@ console_callee setup k least n rest d m f stands b r =
     let logs : found m (Own 52) (codes "log") ≡ Stands (Datum (Refers (Own 53)) true false) =
     ap (λ n. found_within n m (Own 52) (codes "log")) chain.1 ∙ here_own (suc (suc chain.0)) m 52 (codes "log") (Datum (Refers (Own 53)) true false) knows.members.log in
     name_found (evaluator n) (codes "console") (Datum (Refers (Own 52)) true false) m f (bind (λ base m f. with_base (evaluator (suc n)) (ToMember base (codes "log")) at_top rest m f d) d) stands
-    ∙ ap (λ x. read_row (evaluator (suc n)) (Refers (Own 52)) x m f (bind (λ callee. rest (callee, Refers (Own 52))) d)) logs
+    ∙ find_stands (reading (codes "log")) (Own 52) (codes "log") (λ x m f. read_row (evaluator (suc n)) (Refers (Own 52)) x m f (bind (λ callee. rest (callee, Refers (Own 52))) d)) (bind (λ callee. rest (callee, Refers (Own 52))) d) m f
+    (Datum (Refers (Own 53)) true false) logs
 
 gm_callee : (n : ℕ) (rest : With (Value × Value)) (d : ev.Cont) (m : Machine) (f : ℕ) → LogStands XrayScript m
     → name_row (evaluator n) missing_throws (codes "GM_log") at_top m f (bind (λ callee. rest (callee, undefined)) d) ≡ rest (Refers (Own 55), undefined) m f

@@ -3,9 +3,10 @@ use Rattle.std.proofs.Common.{◌≡◌, ◌∙◌, refl, sym, subst, ap, ℕ, �
 use Rattle.door.specs.declared.grants.GrantSet.{GrantSet}
 use Rattle.door.specs.declared.zones.Zone.{Zone}
 use Rattle.door.specs.declared.zones.Zone.TheVariants.{Host, Page, XrayScript, PlainScript}
+use Rattle.js_semantics.specs.Evaluator.{With, Cont}
 use Rattle.js_semantics.specs.Intrinsics.{Setup, fresh}
 use Rattle.js_semantics.specs.Machine.{Machine, Cell, MetThing, Reference, Own, Thing, Refers, Property, Datum, Accessor, global_in, global_of}
-use Rattle.js_semantics.specs.Members.{Stands, found_within, found, chain_bound, own_property, prototype_of, along}
+use Rattle.js_semantics.specs.Members.{Found, Passing, Stands, found_within, found, find_by, on_found, beyond_within, chain_bound, own_property, prototype_of, along}
 use Rattle.js_semantics.specs.Names.{bound_within}
 use Rattle.small_meaning.specs.Shows.{MayRun}
 use Rattle.small_meaning.proofs.Cells.{HasMembers, HasPageNames, HasScriptNames, own_of_met, page_cells, page_members, page_names, page_of, page_room, page_things, script_cells, script_members, script_names, script_of, script_room, script_things}
@@ -43,6 +44,10 @@ three (suc zero) h = absurd (omega (arith, h))
 three (suc (suc zero)) h = absurd (omega (arith, h))
 three (suc (suc (suc j))) h = (j, refl)
 
+-- what is found is what stands
+pub find_stands : (passing : Passing) (r : Reference) (key : List ℕ) (k : With Found) (c : Cont) (m : Machine) (f : ℕ) (p : Property) → found m r key ≡ Stands p → find_by passing r key k c m f ≡ k (Stands p) m f
+find_stands passing r key k c m f p e = ap (λ x. on_found (beyond_within (chain_bound m) passing key k c) k x m f) e
+
 -- ---- what stands in the machine
 
 -- what a machine holds of its beginning
@@ -62,7 +67,7 @@ LogStands zone m = found m (global_of m) (codes "GM_log") ≡ Stands (Datum (Ref
 pub record Knows (setup : Setup) (m : Machine) : Type 0 where
   pub bound : 3 ≤ chain_bound m
   pub members : HasMembers m.cells
-  pub document : found m (global_of m) (codes "document") ≡ Stands (Accessor (Some 89) None false)
+  pub document : found m (global_of m) (codes "document") ≡ Stands (Accessor (Some 93) None false)
   pub log : LogStands setup.zone m
 
 long_enough : (m : Machine) (cells more : List (Option Cell)) → m.cells ≡ cells ++ more → length cells ≡ 300 → 3 ≤ chain_bound m
@@ -73,10 +78,10 @@ page_knows : (log : Bool) (grants : GrantSet) (address : List ℕ) (m : Machine)
 page_knows log grants address m h = record {
   bound = bound;
   members = members;
-  document = subst (λ (r : Reference). found m r (codes "document") ≡ Stands (Accessor (Some 89) None false)) (sym global) (
+  document = subst (λ (r : Reference). found m r (codes "document") ≡ Stands (Accessor (Some 93) None false)) (sym global) (
       ap (λ n. found_within n m (Thing 0) (codes "document")) chain.1
-      ∙ above_thing (suc (suc chain.0)) m 0 (codes "document") (Own 85) (met (codes "document") ∙ names.document) (ap (λ ts. prototype_of (record m { things = ts }) (Thing 0)) h.things ∙ names.above)
-      ∙ here_own (suc chain.0) m 85 (codes "document") (Accessor (Some 89) None false) members.document);
+      ∙ above_thing (suc (suc chain.0)) m 0 (codes "document") (Own 89) (met (codes "document") ∙ names.document) (ap (λ ts. prototype_of (record m { things = ts }) (Thing 0)) h.things ∙ names.above)
+      ∙ here_own (suc chain.0) m 89 (codes "document") (Accessor (Some 93) None false) members.document);
   log = subst (λ (r : Reference). found m r (codes "console") ≡ Stands (Datum (Refers (Own 52)) true false)) (sym global) (
       ap (λ n. found_within n m (Thing 0) (codes "console")) chain.1
       ∙ here_thing (suc (suc chain.0)) m 0 (codes "console") (Datum (Refers (Own 52)) true false) (met (codes "console") ∙ names.console));
@@ -107,11 +112,11 @@ script_knows : (grants : GrantSet) (address : List ℕ) (m : Machine) → Holds 
 script_knows grants address m h = record {
   bound = bound;
   members = members;
-  document = subst (λ (r : Reference). found m r (codes "document") ≡ Stands (Accessor (Some 89) None false)) (sym global) (
+  document = subst (λ (r : Reference). found m r (codes "document") ≡ Stands (Accessor (Some 93) None false)) (sym global) (
       ap (λ n. found_within n m (Own 299) (codes "document")) chain.1
       ∙ above_own (suc (suc chain.0)) m 299 (codes "document") (Thing 0) names.document names.above
-      ∙ above_thing (suc chain.0) m 0 (codes "document") (Own 85) names.bare names.window
-      ∙ here_own chain.0 m 85 (codes "document") (Accessor (Some 89) None false) members.document);
+      ∙ above_thing (suc chain.0) m 0 (codes "document") (Own 89) names.bare names.window
+      ∙ here_own chain.0 m 89 (codes "document") (Accessor (Some 93) None false) members.document);
   log = subst (λ (r : Reference). found m r (codes "GM_log") ≡ Stands (Datum (Refers (Own 55)) true false)) (sym global) (
       ap (λ n. found_within n m (Own 299) (codes "GM_log")) chain.1
       ∙ here_own (suc (suc chain.0)) m 299 (codes "GM_log") (Datum (Refers (Own 55)) true false) names.gm_log);

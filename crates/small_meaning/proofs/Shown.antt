@@ -1,11 +1,10 @@
 -- What an actor of a genuine journal is shown, and how many entries there are in a lawful one.
-use Rattle.std.proofs.Common.{◌≡◌, ◌⊎◌, inl, inr, ap, sym, refl, subst, ℕ, ◌+◌, ◌≤◌, Bool, true, false, not, ◌||◌, List, [], ◌∷◌, ◌++◌, length, arith, nat_le, nat_lt, if◌then◌else◌, Option, Some, None, slice_get}
+use Rattle.std.proofs.Common.{◌≡◌, ◌⊎◌, inl, inr, ap, sym, refl, subst, ℕ, ◌+◌, ◌≤◌, Bool, true, false, List, [], ◌∷◌, ◌++◌, length, arith, nat_lt, if◌then◌else◌, Option, Some, None, slice_get}
 use Prim.Native.Nat.{zero, suc}
 use Rattle.std.proofs.lemmas.Bool.Decides.{nat_tests}
 use Rattle.std.proofs.lemmas.List.{length-append}
 use Rattle.js_semantics.specs.Solo.{Dispatches, Leaves}
 use Rattle.std.specs.List.{list_any, position_or_len}
-use Rattle.std.specs.Option.{option_map_or}
 use Rattle.base_text.specs.Scalars.{utf8_len}
 use Rattle.base_text.specs.declared.text.TheConstants.{TEXT_LIMIT}
 use Rattle.door.specs.declared.values.Actor.{Actor}
@@ -17,7 +16,7 @@ use Rattle.door.specs.declared.zones.Zone.{Zone}
 use Rattle.door.specs.declared.members.Member.{Member}
 use Rattle.door.specs.declared.members.Member.TheVariants.{WindowDocument, DocumentTitle, DocumentSetTitle, GmLog, ConsoleLog}
 use Rattle.door.specs.declared.requests.ErrorKind.{ErrorKind}
-use Rattle.door.specs.declared.requests.ErrorKind.TheVariants.{Limit, TooDeep, TooLong, Crossing}
+use Rattle.door.specs.declared.requests.ErrorKind.TheVariants.{TooLong}
 use Rattle.door.specs.declared.requests.Request.{Request}
 use Rattle.door.specs.declared.requests.Request.TheVariants.{Native, Peek, PeekKeys, Reach}
 use Rattle.door.specs.declared.requests.Answer.{Answer}
@@ -27,13 +26,11 @@ use Rattle.door.specs.declared.marks.Task.{Task}
 use Rattle.door.specs.declared.marks.Task.TheVariants.{Piece as PieceTask, Ready, Start, Load}
 use Rattle.door.specs.declared.marks.Mark.{Mark}
 use Rattle.door.specs.declared.marks.Mark.TheVariants.{Turn, Build, Enter, Ask, Dispatch, Back, Leave, Serve, Served}
-use Rattle.dom_semantics.specs.Changes.{is_empty, text_refusal}
-use Rattle.dom_semantics.specs.Forest.{DEPTH_LIMIT, Forest, NODE_LIMIT, depth_of, form_at, is_element, made_by}
 use Rattle.solo_model.specs.Lawful.{AreAsksOf, AreBuilds, AreTurns, Input, IsEntry, IsScripted, IsTurn, Piece, placed_request, tasks_of, numbered, event_marks}
 use Rattle.solo_model.specs.Stage.{Stage, stage_of}
 use Rattle.solo_model.specs.Solo.{Answers, shows_of}
 use Rattle.solo_model.specs.Things.{the_document, the_page, the_window, thing_of, userscript}
-use Rattle.dom_semantics.specs.Titles.{append_refusal, new_nodes, title_of, title_refusal, title_element, head_element}
+use Rattle.dom_semantics.specs.Titles.{title_of, title_refusal}
 use Rattle.solo_model.specs.Truth.{IsGenuineAfter, answer_of, only_of, refused_or, text_answer}
 use Rattle.solo_model.specs.View.{Met, Seen, Entered, Asked, Said, Returned, event_spot, is_actor, meets_entry, named, named_entry, is_thing, meets_answer, meets_thing, named_answer, named_request, view_from}
 use Rattle.small_meaning.specs.Shows.{AreFit, FitsEntry, FitsShow, IsText, entries_in}
@@ -155,45 +152,12 @@ abbrev pub Told : Answer → Type 0
 Told (ValueAnswer (ThingValue thing)) = thing ≡ the_document
 Told (ValueAnswer (StrValue text)) = IsText text
 Told (ValueAnswer Undefined) = Unit {0}
-Told (ThrowAnswer (Crossing message)) = ⊥
 Told (ThrowAnswer reason) = Unit {0}
 Told given = ⊥
 
--- a refusal by a rule of the outside
-abbrev Refuses : Option ErrorKind → Type 0
-Refuses None = Unit {0}
-Refuses (Some (Crossing message)) = ⊥
-Refuses (Some reason) = Unit {0}
-
-refuses_if : (b : Bool) (x y : Option ErrorKind) → Refuses x → Refuses y → Refuses (if b then x else y)
-refuses_if true x y h k = h
-refuses_if false x y h k = k
-
-refuses_text : (f : Forest) (maker : Actor) (n : ℕ) (text : List ℕ) → Refuses (text_refusal f maker n text)
-refuses_text f maker n text =
-    let deep = if nat_lt (depth_of f n) DEPTH_LIMIT then None else Some TooDeep in
-    let full = if not (nat_lt (made_by f maker) NODE_LIMIT) then Some Limit else deep in
-    refuses_if (not (is_element (form_at f n)) || is_empty text) None full tt
-    (refuses_if (not (nat_lt (made_by f maker) NODE_LIMIT)) (Some Limit) deep tt (refuses_if (nat_lt (depth_of f n) DEPTH_LIMIT) None (Some TooDeep) tt tt))
-
-refuses_append : (f : Forest) (maker : Actor) (n : ℕ) (text : List ℕ) → Refuses (append_refusal f maker n text)
-refuses_append f maker n text =
-    let deep = if not (nat_le (depth_of f n + new_nodes text) DEPTH_LIMIT) then Some TooDeep else None in
-    refuses_if (not (nat_le (made_by f maker + new_nodes text) NODE_LIMIT)) (Some Limit) deep tt
-    (refuses_if (not (nat_le (depth_of f n + new_nodes text) DEPTH_LIMIT)) (Some TooDeep) None tt tt)
-
-refuses_title : (f : Forest) (maker : Actor) (text : List ℕ) → Refuses (title_refusal f maker text)
-refuses_title f maker text = by (title_element f) (head_element f)
-  where
-    by : (t h : Option ℕ) → Refuses (option_map_or (λ n. text_refusal f maker n text) t (option_map_or (λ n. append_refusal f maker n text) h None))
-    by (Some n) h = refuses_text f maker n text
-    by None (Some n) = refuses_append f maker n text
-    by None None = tt
-
-told_refused : (o : Option ErrorKind) → Refuses o → Told (refused_or o (ValueAnswer Undefined))
-told_refused None h = tt
-told_refused (Some (Crossing message)) h = absurd h
-told_refused (Some reason) h = tt
+told_refused : (o : Option ErrorKind) → Told (refused_or o (ValueAnswer Undefined))
+told_refused None = tt
+told_refused (Some reason) = tt
 
 not_over : (n : ℕ) → nat_lt TEXT_LIMIT n ≡ false → n ≤ TEXT_LIMIT
 not_over n e = grind (arith, nat_tests)
@@ -215,7 +179,7 @@ told_only owner thing x given h e = by (is_thing owner thing) e
 true_told : (s : Stage) (i : Actor) (member : Member) (thing : Thing) (arguments : List Value) (given : Answer) → answer_of s i member thing arguments ≡ Some given → Told given
 true_told s i WindowDocument thing [] given e = told_only the_window thing _ given refl e
 true_told s i DocumentTitle thing [] given e = told_only the_document thing _ given (told_text (title_of s.nodes)) e
-true_told s i DocumentSetTitle thing (StrValue text ∷ []) given e = told_only the_document thing _ given (told_refused (title_refusal s.nodes i text) (refuses_title s.nodes i text)) e
+true_told s i DocumentSetTitle thing (StrValue text ∷ []) given e = told_only the_document thing _ given (told_refused (title_refusal s.nodes i text)) e
 true_told s i GmLog thing (StrValue text ∷ []) given e = told_only the_window thing _ given tt e
 true_told s i ConsoleLog thing (StrValue text ∷ []) given e = told_only the_window thing _ given tt e
 true_told s i member thing arguments given e = absurd cc
@@ -253,7 +217,6 @@ shows_told : (zone : Zone) (i : Actor) (met : Met) (given : Answer) → AreMet m
 shows_told zone i met (ValueAnswer (ThingValue thing)) known told = let P : Thing → Type 0 = λ t. Shows zone i met (ValueAnswer (ThingValue t)) in subst P (sym told) (shows_document zone i met known)
 shows_told zone i met (ValueAnswer (StrValue text)) known told = (told, known)
 shows_told zone i met (ValueAnswer Undefined) known told = (tt, known)
-shows_told zone i met (ThrowAnswer (Crossing message)) known told = absurd told
 shows_told zone i met (ThrowAnswer reason) known told = (tt, known)
 shows_told zone i met given known told = absurd told
 

@@ -55,7 +55,7 @@ pub document_alike : (setup : Setup) (k : ℕ) (least : Bool) (n : ℕ) (next : 
     → ((m : Machine) (left : ℕ) → Ready setup true (suc k) m → Alike setup k (next (thing_of Document 1) left) (d (Gives (Refers (Thing 1))) m left))
     → Alike setup k (small.document_row next c f) ((evaluator (suc (suc n))).expr (ex.Name (codes "document")) at_top m f d)
 document_alike setup k least n next c d m f b s r h =
-    expr_charged setup k least (suc n) (ex.Name (codes "document")) (o.Name (codes "document")) (small.ask (NativeRequest WindowDocument the_window []) (small.with_document next c) c) c d m f (name_form (codes "document")) s r
+    expr_charged setup k least (suc n) (ex.Name (codes "document")) (o.Name (codes "document")) (small.ask (NativeRequest WindowDocument the_window []) (small.with_document next) c) c d m f (name_form (codes "document")) s r
     (λ left. document_asked setup k least n next c d m left b s r h)
 
 part_alike : (setup : Setup) (k : ℕ) (least : Bool) (n : ℕ) (part : Part) (c : small.Cont) (d : ev.Cont) (m : Machine) (f : ℕ) → IsSound part → Begins setup → Stops setup k least c d → Ready setup least (suc k) m → GivesAlike setup k least 999 c d

@@ -14,7 +14,7 @@ use Rattle.door.specs.declared.values.Value.TheVariants.{Thing as ThingValue, St
 use Rattle.door.specs.declared.members.Member.{Member}
 use Rattle.door.specs.declared.members.Member.TheVariants.{WindowDocument, DocumentTitle, DocumentSetTitle, GmLog, ConsoleLog}
 use Rattle.door.specs.declared.requests.ErrorKind.{ErrorKind}
-use Rattle.door.specs.declared.requests.ErrorKind.TheVariants.{TooLong}
+use Rattle.door.specs.declared.requests.ErrorKind.TheVariants.{Limit, TooDeep, TooLong}
 use Rattle.door.specs.declared.requests.Request.{Request}
 use Rattle.door.specs.declared.requests.Request.TheVariants.{Native}
 use Rattle.door.specs.declared.requests.Answer.{Answer}
@@ -84,27 +84,32 @@ abbrev pub of_document : Kind → Program Bare → Program Bare
 of_document Document tree = tree
 of_document kind tree = Stuck
 
--- goes on with the document that is answered
-abbrev pub with_document : (Thing → ℕ → Program Bare) → Cont → Answer → ℕ → Program Bare
-with_document k c (ValueAnswer (ThingValue thing)) fuel = of_document thing.kind (k thing fuel)
-with_document k c (ThrowAnswer reason) fuel = c (Throws reason) fuel
-with_document k c given fuel = Stuck
+-- goes on with the document that is answered; it isn't refused
+abbrev pub with_document : (Thing → ℕ → Program Bare) → Answer → ℕ → Program Bare
+with_document k (ValueAnswer (ThingValue thing)) fuel = of_document thing.kind (k thing fuel)
+with_document k given fuel = Stuck
 
--- goes on with the text that is answered
+-- goes on with the text that is answered, unless it would be too long
 abbrev pub with_text : (List ℕ → ℕ → Program Bare) → Cont → Answer → ℕ → Program Bare
 with_text k c (ValueAnswer (StrValue text)) fuel = k text fuel
-with_text k c (ThrowAnswer reason) fuel = c (Throws reason) fuel
+with_text k c (ThrowAnswer TooLong) fuel = c (Throws TooLong) fuel
 with_text k c given fuel = Stuck
 
--- goes on where nothing is answered
-abbrev pub with_nothing : (ℕ → Program Bare) → Cont → Answer → ℕ → Program Bare
-with_nothing k c (ValueAnswer Undefined) fuel = k fuel
-with_nothing k c (ThrowAnswer reason) fuel = c (Throws reason) fuel
-with_nothing k c given fuel = Stuck
+-- goes on after a log, which isn't refused
+abbrev pub with_nothing : (ℕ → Program Bare) → Answer → ℕ → Program Bare
+with_nothing k (ValueAnswer Undefined) fuel = k fuel
+with_nothing k given fuel = Stuck
+
+-- goes on after the title is written, unless there would be too many nodes, or one too deep
+abbrev pub with_title : (ℕ → Program Bare) → Cont → Answer → ℕ → Program Bare
+with_title k c (ValueAnswer Undefined) fuel = k fuel
+with_title k c (ThrowAnswer Limit) fuel = c (Throws Limit) fuel
+with_title k c (ThrowAnswer TooDeep) fuel = c (Throws TooDeep) fuel
+with_title k c given fuel = Stuck
 
 -- the name `document` (HTML, Window.document)
 abbrev pub document_row : (Thing → ℕ → Program Bare) → Cont → ℕ → Program Bare
-document_row k c = charge 1 (ask (Native WindowDocument the_window []) (with_document k c) c) c
+document_row k c = charge 1 (ask (Native WindowDocument the_window []) (with_document k) c) c
 
 -- `document.title` (HTML, document.title), a number, a text (ECMAScript, Literals)
 abbrev pub part_row : Part → Cont → ℕ → Program Bare
@@ -159,7 +164,7 @@ call_units zone = 3
 -- the value of a sum is logged as a text
 abbrev pub logged_row : Zone → Prim → Cont → ℕ → Program Bare
 logged_row zone value c =
-    charge (text_units (text_of value)) (ask (Native (log_member zone) the_window (StrValue (text_of value) ∷ [])) (with_nothing (c Next) c) c) c
+    charge (text_units (text_of value)) (ask (Native (log_member zone) the_window (StrValue (text_of value) ∷ [])) (with_nothing (c Next)) c) c
 
 abbrev pub log_row : Zone → Sum → Cont → ℕ → Program Bare
 log_row zone sum c = charge (call_units zone) (sum_row sum (bind (λ value. logged_row zone value c) c)) c
@@ -172,7 +177,7 @@ argument_units (StrPrim text) = 0
 -- a value is written into the title of a document
 abbrev pub written_row : Thing → Prim → Cont → ℕ → Program Bare
 written_row document value c =
-    charge (argument_units value) (ask (Native DocumentSetTitle document (StrValue (text_of value) ∷ [])) (with_nothing (c Next) c) c) c
+    charge (argument_units value) (ask (Native DocumentSetTitle document (StrValue (text_of value) ∷ [])) (with_title (c Next) c) c) c
 
 -- the statement and the assignment are charged, and the base of the member is evaluated before the right side (ECMAScript, Assignment Operators)
 abbrev pub title_row : Sum → Cont → ℕ → Program Bare

@@ -9,9 +9,7 @@ use Rattle.door.specs.declared.values.Kind.TheVariants.{Document}
 use Rattle.door.specs.declared.values.Value.{Value}
 use Rattle.door.specs.declared.values.Value.TheVariants.{Thing as ThingValue, Str as StrValue}
 use Rattle.door.specs.declared.requests.Answer.{Answer}
-use Rattle.door.specs.declared.requests.Answer.TheVariants.{Value as ValueAnswer, Throw as ThrowAnswer}
-use Rattle.door.specs.declared.requests.ErrorKind.{ErrorKind}
-use Rattle.door.specs.declared.requests.ErrorKind.TheVariants.{Crossing}
+use Rattle.door.specs.declared.requests.Answer.TheVariants.{Value as ValueAnswer}
 use Rattle.door.specs.declared.marks.Entry.{Entry}
 use Rattle.door.specs.declared.marks.Entry.TheVariants.{Script}
 use Rattle.small_forms.specs.declared.limits.TheConstants.{SMALL_PAGE_LIMIT}
@@ -38,14 +36,8 @@ FitsValue (ThingValue thing) = thing ≡ thing_of Document 1
 FitsValue (StrValue text) = IsText text
 FitsValue value = Unit {0}
 
--- the message that an error carries is a text of the language
-abbrev pub FitsRefusal : ErrorKind → Type 0
-FitsRefusal (Crossing message) = IsText message
-FitsRefusal reason = Unit {0}
-
 abbrev pub FitsAnswer : Answer → Type 0
 FitsAnswer (ValueAnswer value) = FitsValue value
-FitsAnswer (ThrowAnswer reason) = FitsRefusal reason
 FitsAnswer answer = Unit {0}
 
 -- a script is at most as long as a page, and where it is read as lines it spells their statements

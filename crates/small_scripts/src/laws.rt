@@ -3,7 +3,7 @@
 ghost use Rattle.std.specs.Prelude.{◌≤◌, Contains, List, length, ℕ};
 ghost use Rattle.base_text.specs.declared.text.TheConstants.{TEXT_LIMIT};
 ghost use Rattle.door.specs.declared.zones.Zone.TheVariants.{Page, XrayScript};
-ghost use Rattle.small_forms.specs.Pages.{IsPage, script_texts};
+ghost use Rattle.small_forms.specs.Pages.{IsPage, texts_of_scripts};
 ghost use Rattle.small_forms.specs.Scripts.{IsPageScript, IsUserscript};
 ghost use Rattle.small_forms.specs.declared.page.Page.{Page as OnePage};
 ghost use Rattle.small_forms.specs.declared.script.Line.{Line};
@@ -20,7 +20,7 @@ pub fn page_scripts_spell_their_lines()
 /// Each script of a page is short enough, so it spells its lines as statements.
 pub fn scripts_of_pages_spell_their_lines()
     ensures { (bytes : List ℕ) (page : OnePage) (text : List ℕ) (lines : List Line) → IsPage bytes page
-        → Contains (script_texts page.scripts) text → IsPageScript text lines → Spells text (body_of Page lines) }
+        → Contains (texts_of_scripts page.scripts) text → IsPageScript text lines → Spells text (body_of Page lines) }
 {}
 
 /// The text of a userscript spells its lines as statements: its metadata block is comments.

@@ -1,9 +1,9 @@
--- Where a view has led a machine to its waiting, what is seen of it is what the machine does by itself; looks of others change nothing.
+-- Where a view has led a machine to its waiting, what is seen of it is what the machine does by itself.
 use Rattle.std.proofs.Common.{ap, sym, refl, subst, ℕ, List, [], ◌∷◌}
 use Rattle.door.specs.declared.requests.Answer.{Answer}
 use Rattle.js_semantics.specs.Machine.{Machine}
 use Rattle.js_semantics.specs.Solo.{Act, Program, Asks, Emits, Stuck, State, Runs, Awaits, Entering}
-use Rattle.solo_model.specs.ActorView.{Seen, Entered, Asked, Said, Returned, Peeked, PeekedKeys}
+use Rattle.solo_model.specs.ActorView.{Seen, Entered, Asked, Said, Returned}
 use Rattle.solo_model.specs.MachineStates.{Reaches}
 use Rattle.solo_model.specs.Solo.{Says, Requests, IsSoloFrom}
 use Rattle.solo_model.specs.ViewDeeds.{deeds_of, shows_of}
@@ -20,18 +20,12 @@ reached-alone entering (Runs (Emits act levels m back)) l n b (Said said ∷ see
     subst P (sym e) (told_then entering act levels m back (shows_of seen) (deeds_of seen) (reached-alone entering (Awaits levels m back) l n b seen a))
 reached-alone entering (Awaits levels m back) l n b (Entered entry ∷ seen) (tree, e, a) = (tree, e, reached-alone entering (Runs tree) l n b seen a)
 reached-alone entering (Awaits levels m back) l n b (Returned answer ∷ seen) a = reached-alone entering (Runs (back m answer)) l n b seen a
-reached-alone entering (Awaits levels m back) l n b (Peeked place key answer ∷ seen) (e, a) = reached-alone entering (Awaits levels m back) l n b seen a
-reached-alone entering (Awaits levels m back) l n b (PeekedKeys place answer ∷ seen) (e, a) = reached-alone entering (Awaits levels m back) l n b seen a
 reached-alone entering (Runs (Asks request next)) l n b (Entered entry ∷ seen) a = absurd a
 reached-alone entering (Runs (Asks request next)) l n b (Said said ∷ seen) a = absurd a
 reached-alone entering (Runs (Asks request next)) l n b (Returned answer ∷ seen) a = absurd a
-reached-alone entering (Runs (Asks request next)) l n b (Peeked place key answer ∷ seen) a = absurd a
-reached-alone entering (Runs (Asks request next)) l n b (PeekedKeys place answer ∷ seen) a = absurd a
 reached-alone entering (Runs (Emits act levels m back)) l n b (Entered entry ∷ seen) a = absurd a
 reached-alone entering (Runs (Emits act levels m back)) l n b (Asked asked answer ∷ seen) a = absurd a
 reached-alone entering (Runs (Emits act levels m back)) l n b (Returned answer ∷ seen) a = absurd a
-reached-alone entering (Runs (Emits act levels m back)) l n b (Peeked place key answer ∷ seen) a = absurd a
-reached-alone entering (Runs (Emits act levels m back)) l n b (PeekedKeys place answer ∷ seen) a = absurd a
 reached-alone entering (Awaits levels m back) l n b (Asked asked answer ∷ seen) a = absurd a
 reached-alone entering (Awaits levels m back) l n b (Said said ∷ seen) a = absurd a
 reached-alone entering (Runs Stuck) l n b (x ∷ seen) a = absurd a

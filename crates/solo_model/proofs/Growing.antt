@@ -8,7 +8,7 @@ use Rattle.solo_model.specs.Given.{Given}
 use Rattle.solo_model.specs.Nesting.{Progress, advanced, progress_from}
 use Rattle.solo_model.specs.NextMark.{Allows, AreAllowed, next_of}
 use Rattle.solo_model.specs.Acts.{Setups}
-use Rattle.solo_model.specs.Genuine.{AreTrueAfter, IsTrueAfter}
+use Rattle.solo_model.specs.Genuine.{AreTrueMarks, IsTrueMark}
 
 -- the progress of two journals, one behind the other
 pub progress_from-append : (at : ℕ) (p : Progress) (front marks : List Mark) → progress_from at p (front ++ marks) ≡ progress_from (at + length front) (progress_from at p front) marks
@@ -28,9 +28,9 @@ allowed-more given setting before (m ∷ marks) mark h may =
     (h.0, allowed-more given setting (before ++ m ∷ []) marks mark h.1 (subst (λ front. Allows given front (next_of given setting front) mark) (sym (append_assoc before (m ∷ []) marks)) may))
 
 -- a mark more that is true
-pub genuine-more : (setups : Setups) (setting : Setting) (before marks : List Mark) (mark : Mark) → AreTrueAfter setups setting before marks
-    → IsTrueAfter setups setting (before ++ marks) mark → AreTrueAfter setups setting before (marks ++ mark ∷ [])
-unfolding AreTrueAfter
-genuine-more setups setting before [] mark h true = (subst (λ front. IsTrueAfter setups setting front mark) (append-nil before) true, tt)
+pub genuine-more : (setups : Setups) (setting : Setting) (before marks : List Mark) (mark : Mark) → AreTrueMarks setups setting before marks
+    → IsTrueMark setups setting (before ++ marks) mark → AreTrueMarks setups setting before (marks ++ mark ∷ [])
+unfolding AreTrueMarks
+genuine-more setups setting before [] mark h true = (subst (λ front. IsTrueMark setups setting front mark) (append-nil before) true, tt)
 genuine-more setups setting before (m ∷ marks) mark h true =
-    (h.0, genuine-more setups setting (before ++ m ∷ []) marks mark h.1 (subst (λ front. IsTrueAfter setups setting front mark) (sym (append_assoc before (m ∷ []) marks)) true))
+    (h.0, genuine-more setups setting (before ++ m ∷ []) marks mark h.1 (subst (λ front. IsTrueMark setups setting front mark) (sym (append_assoc before (m ∷ []) marks)) true))

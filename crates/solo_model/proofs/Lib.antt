@@ -9,3 +9,7 @@ pub mod OneEntry
 pub mod OneName
 pub mod Growing
 pub mod Alone
+pub mod NextTurns
+pub mod Ends
+pub mod Owners
+pub mod Clocks

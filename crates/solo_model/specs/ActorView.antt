@@ -1,13 +1,12 @@
--- What one actor sees of a journal: its own marks in order, by the names of `Naming`, and looks of others at its objects; this project's own.
+-- What one actor sees of a journal: its own marks in order, by the names of `Naming`; this project's own.
 use Rattle.std.specs.Prelude.{ℕ, List, [], ◌∷◌, ◌++◌, if◌then◌else◌}
 use Rattle.door.specs.declared.values.Actor.{Actor}
 use Rattle.door.specs.declared.values.Value.{Value}
 use Rattle.door.specs.declared.values.Value.TheVariants.{Thing as ThingValue}
 use Rattle.door.specs.declared.members.Member.TheVariants.{EventTargetDispatchEvent}
 use Rattle.door.specs.declared.requests.Request.{Request}
-use Rattle.door.specs.declared.requests.Request.TheVariants.{Native, Peek, PeekKeys}
+use Rattle.door.specs.declared.requests.Request.TheVariants.{Native}
 use Rattle.door.specs.declared.requests.Answer.{Answer}
-use Rattle.door.specs.declared.requests.Answer.TheVariants.{Denied}
 use Rattle.door.specs.declared.marks.Entry.{Entry}
 use Rattle.door.specs.declared.marks.Mark.{Mark}
 use Rattle.door.specs.declared.marks.Mark.TheVariants.{Enter, Ask, Dispatch, Back, Leave}
@@ -15,15 +14,12 @@ use Rattle.dom_semantics.specs.Things.{is_actor}
 use Rattle.js_semantics.specs.Solo.{Act, Dispatches, Leaves}
 use Rattle.solo_model.specs.Naming.{Met, met_first, meets_answer, meets_entry, named, event_spot, named_answer, named_entry, named_request}
 
--- one mark as an actor sees it: its entries, its requests with their answers, what it says, what comes back; and a look of another actor
--- at an object of its own, which neither shows it anything nor is a deed
+-- one mark as an actor sees it: its entries, its requests with their answers, what it says, what comes back
 pub data Seen : Type 0 where
   Entered : Entry → Seen
   Asked : Request → Answer → Seen
   Said : Act → Seen
   Returned : Answer → Seen
-  Peeked : (place : ℕ) → (key : List ℕ) → Answer → Seen
-  PeekedKeys : (place : ℕ) → Answer → Seen
 
 -- what an actor has met after a mark
 abbrev pub learnt : Actor → Met → Mark → Met
@@ -46,22 +42,10 @@ asked_seen i met after (Native EventTargetDispatchEvent target arguments) answer
     Said (Dispatches (event_spot met (event_of arguments)) (named met target)) ∷ (Returned (named_answer i after answer) ∷ [])
 asked_seen i met after request answer = Asked (named_request i met request) (named_answer i after answer) ∷ []
 
--- a look that was denied isn't seen
-abbrev pub unless_denied : Answer → List Seen → List Seen
-unless_denied Denied seen = []
-unless_denied answer seen = seen
-
--- what an actor sees of another's request: looks at its own objects
-abbrev pub looked_at : Actor → Met → Request → Answer → List Seen
-looked_at i met (Peek owner place key) answer = if is_actor owner i then unless_denied answer (Peeked place key (named_answer i met answer) ∷ []) else []
-looked_at i met (PeekKeys owner place) answer = if is_actor owner i then unless_denied answer (PeekedKeys place answer ∷ []) else []
-looked_at i met request answer = []
-
--- what an actor sees of a mark; services come into no view yet
+-- what an actor sees of a mark: of another's nothing, not even a look at its objects; services come into no view yet
 abbrev pub seen_of : Actor → Met → Mark → List Seen
 seen_of i met (Enter j entry) = if_own i j (Entered (named_entry (meets_entry met entry) entry))
-seen_of i met (Ask j request answer) =
-    if is_actor j i then asked_seen i met (meets_answer i met answer) request answer else looked_at i met request answer
+seen_of i met (Ask j request answer) = if is_actor j i then asked_seen i met (meets_answer i met answer) request answer else []
 seen_of i met (Dispatch j event target) = if_own i j (Said (Dispatches (event_spot met event) (named met target)))
 seen_of i met (Back j answer) = if_own i j (Returned answer)
 seen_of i met (Leave j outcome units) = if_own i j (Said (Leaves outcome units))

@@ -1,7 +1,8 @@
 -- What a run is given, as plain lists; this project's own in form.
-use Rattle.std.specs.Prelude.{◌≡◌, ◌+◌, ◌&&◌, ◌||◌, ℕ, Bool, true, not, List, [], ◌∷◌, map, nat_lt, filter, if◌then◌else◌, Option, is_some}
-use Rattle.std.specs.List.{list_all, list_any}
+use Rattle.std.specs.Prelude.{◌≡◌, ◌+◌, ◌&&◌, ℕ, Bool, true, false, not, List, [], ◌∷◌, All, map, nat_lt, filter, if◌then◌else◌, Option, None, is_some, is_none}
+use Rattle.std.specs.List.{list_any}
 use Rattle.std.specs.Option.{option_map_or}
+use Rattle.std.specs.Str.{bytes_eq}
 use Prim.Native.Nat.{zero, suc}
 use Rattle.door.specs.declared.values.Actor.{Actor}
 use Rattle.door.specs.declared.grants.GrantSet.{GrantSet}
@@ -17,10 +18,6 @@ use Rattle.dom_semantics.specs.Grants.{grants_of, no_grants}
 use Rattle.dom_semantics.specs.Stage.{Origin, Setting, IsSetting}
 use Rattle.dom_semantics.specs.Stores.{Stores, are_ascending, is_owner}
 
--- a selector that was read: its alternatives, each a chain of compounds
-abbrev pub Chains : Type 0
-Chains = List (List Compound)
-
 -- a piece of the page: the requests that build it, where a node goes by its number among the page's own nodes, and the script at its end
 pub record Piece : Type 0 where
   pub writes : List Request
@@ -28,26 +25,26 @@ pub record Piece : Type 0 where
 
 -- when a userscript starts (Greasemonkey manual, @run-at)
 pub data Moment : Type 0 where
-  AtStart : Moment
-  AtEnd : Moment
-  AtIdle : Moment
+  DocumentStart : Moment
+  DocumentEnd : Moment
+  DocumentIdle : Moment
 
 -- how a userscript starts: its text and its moment
 pub record Starter : Type 0 where
   pub text : List ℕ
   pub moment : Moment
 
--- a userscript: how it starts, if it does; whose values its own are; and what it was granted
+-- a userscript: how it starts, if it does; whose values its own are, which have no name where it was refused; and what it was granted
 pub record Userscript : Type 0 where
   pub starter : Option Starter
   pub owner : Owner
   pub grants : GrantSet
 
--- a line of the scenario, with its number in the file
+-- a line of the scenario, with its number in the file; the alternatives of its selector are chains of compounds
 pub data Line : Type 0 where
-  Click : (number : ℕ) → Chains → Line
-  Input : (number : ℕ) → Chains → (text : List ℕ) → Line
-  Event : (number : ℕ) → Chains → (kind : List ℕ) → Line
+  Click : (number : ℕ) → List (List Compound) → Line
+  Input : (number : ℕ) → List (List Compound) → (text : List ℕ) → Line
+  Event : (number : ℕ) → List (List Compound) → (kind : List ℕ) → Line
   Tick : (number : ℕ) → (milliseconds : ℕ) → Line
 
 -- the page's address, the page in pieces, the userscripts in the order of their file names, the lines of the scenario, the loaded store, and
@@ -58,7 +55,7 @@ pub record Given : Type 0 where
   pub scripts : List Userscript
   pub lines : List Line
   pub stores : Stores
-  pub read_selector : List ℕ → Option Chains
+  pub read_selector : List ℕ → Option (List (List Compound))
 
 -- ---- actors
 
@@ -119,26 +116,37 @@ setting_of given marks = record { origin = origin_of given; stores = given.store
 
 -- ---- what holds of it
 
--- `@grant none` stands alone (Greasemonkey manual, @grant)
-abbrev pub is_grant_set : GrantSet → Bool
-is_grant_set g = not (g.no_grant && (g.unsafe_window || g.get_value || g.set_value || g.delete_value || g.list_values || g.log))
+-- a script's text ends each piece but the last, which has none
+abbrev pub are_cut : List Piece → Bool
+are_cut [] = false
+are_cut (piece ∷ []) = is_none piece.script
+are_cut (piece ∷ pieces) = is_some piece.script && are_cut pieces
 
-abbrev pub starts : Userscript → Bool
-starts script = is_some script.starter
+-- each script that was read has a name (Greasemonkey manual, @name)
+abbrev pub was_read : Userscript → Bool
+was_read script = not (bytes_eq [] script.owner.name)
 
--- the owners of the scripts that start
+-- one that was refused doesn't start, keeps no values and was granted nothing
+abbrev pub refused_script : Userscript
+refused_script = record { starter = None; owner = record { namespace = []; name = [] }; grants = no_grants }
+
+abbrev pub IsReadOrRefused : Userscript → Type 0
+IsReadOrRefused script = was_read script ≡ false → script ≡ refused_script
+
+-- whose values they are, of the scripts that were read, also of those that don't start
 abbrev pub owners_in : List Userscript → List Owner
-owners_in scripts = map (λ (script : Userscript). script.owner) (filter starts scripts)
+owners_in scripts = map (λ (script : Userscript). script.owner) (filter was_read scripts)
 
 -- none of these is another's equal
 abbrev pub are_apart : List Owner → Bool
 are_apart [] = true
 are_apart (owner ∷ owners) = not (list_any (is_owner owner) owners) && are_apart owners
 
--- Reading and loading establish these. Selectors are read by their grammar and the store is in order. No two scripts that start share their
--- values. Lines are counted from 1, upwards.
+-- Reading and loading establish these. The limits are kept, selectors are read by their grammar, `@grant none` stands alone and the store is in
+-- order. The page is cut at its scripts. No two userscripts that were read share their values. Lines are counted from 1, upwards.
 pub record IsGiven (given : Given) : Type 0 where
   pub setting : IsSetting (setting_of given [])
+  pub pieces : are_cut given.pieces ≡ true
+  pub refused : All IsReadOrRefused given.scripts
   pub owners : are_apart (owners_in given.scripts) ≡ true
-  pub grants : list_all (λ (script : Userscript). is_grant_set script.grants) given.scripts ≡ true
   pub lines : are_ascending nat_lt (0 ∷ map line_number given.lines) ≡ true

@@ -26,3 +26,4 @@ pub mod Runs
 pub mod RunFacts
 pub mod ShownFacts
 pub mod GenuineFacts
+pub mod ActsFacts

@@ -1,12 +1,11 @@
--- The transition relation: a machine, run on an actor's view of the journal, reaches this state, and others see of its objects what is shown.
+-- The transition relation: a machine, run on an actor's view of the journal, reaches this state; this project's own.
 use Rattle.std.specs.Prelude.{◌≡◌, List, [], ◌∷◌}
 use Rattle.js_semantics.specs.Machine.{Machine}
 use Rattle.js_semantics.specs.Solo.{Program, Asks, Emits, State, Runs, Awaits, Entering}
-use Rattle.solo_model.specs.Shown.{peeked_answer, peeked_keys_answer}
-use Rattle.solo_model.specs.ActorView.{Seen, Entered, Asked, Said, Returned, Peeked, PeekedKeys}
+use Rattle.solo_model.specs.ActorView.{Seen, Entered, Asked, Said, Returned}
 
--- an actor's view takes its machine from one state to another: its requests and acts are the machine's, the machine goes on with the entries
--- and answers, and looks of others are answered as it stands (this project's own)
+-- an actor's view takes its machine from one state to another: its requests and acts are the machine's, and the machine goes on with the
+-- entries and answers
 unfoldable pub Reaches : Entering Machine → State Machine → List Seen → State Machine → Type 0
 Reaches entering from [] to = from ≡ to
 Reaches entering (Runs (Asks request next)) (Asked asked answer ∷ seen) to = (asked ≡ request) × Reaches entering (Runs (next answer)) seen to
@@ -14,8 +13,4 @@ Reaches entering (Runs (Emits act levels m back)) (Said said ∷ seen) to = (sai
 Reaches entering (Awaits levels m back) (Entered entry ∷ seen) to =
     (tree : Program Machine) × entering entry levels m back tree × Reaches entering (Runs tree) seen to
 Reaches entering (Awaits levels m back) (Returned answer ∷ seen) to = Reaches entering (Runs (back m answer)) seen to
-Reaches entering (Awaits levels m back) (Peeked place key answer ∷ seen) to =
-    (answer ≡ peeked_answer m place key) × Reaches entering (Awaits levels m back) seen to
-Reaches entering (Awaits levels m back) (PeekedKeys place answer ∷ seen) to =
-    (answer ≡ peeked_keys_answer m place) × Reaches entering (Awaits levels m back) seen to
 Reaches entering from seen to = ⊥

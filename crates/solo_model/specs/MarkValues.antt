@@ -7,8 +7,6 @@ use Rattle.door.specs.declared.values.Value.TheVariants.{Cell}
 use Rattle.door.specs.declared.members.Member.TheVariants.{NewCustomEvent}
 use Rattle.door.specs.declared.requests.Request.{Request}
 use Rattle.door.specs.declared.requests.Request.TheVariants.{Native, Peek, PeekKeys, Reach}
-use Rattle.door.specs.declared.requests.ReachOp.{ReachOp}
-use Rattle.door.specs.declared.requests.ReachOp.TheVariants.{Waive, Unwaive, UnsafeWindow, Export, CreateIn, Clone}
 use Rattle.door.specs.declared.requests.ServeOp.{ServeOp}
 use Rattle.door.specs.declared.requests.ServeOp.TheVariants as serve
 use Rattle.door.specs.declared.requests.Answer.{Answer}
@@ -16,7 +14,7 @@ use Rattle.door.specs.declared.requests.Answer.TheVariants as answer
 use Rattle.door.specs.declared.marks.Mark.{Mark}
 use Rattle.door.specs.declared.marks.Mark.TheVariants.{Ask}
 use Rattle.dom_semantics.specs.Bounds.{is_short}
-use Rattle.dom_semantics.specs.Fits.{is_script, is_within_limits}
+use Rattle.dom_semantics.specs.Fits.{is_script, is_within_limits, way_out}
 use Rattle.dom_semantics.specs.Stage.{Stage}
 use Rattle.dom_semantics.specs.Things.{is_actor}
 use Rattle.dom_semantics.specs.Truth.{has_value_thing}
@@ -24,14 +22,6 @@ use Rattle.solo_model.specs.Naming.{Object, is_object}
 use Rattle.solo_model.specs.Openings.{Zones, has_opened}
 
 -- ---- values
-
-abbrev pub reach_values : ReachOp → List Value
-reach_values (Waive v) = v ∷ []
-reach_values (Unwaive v) = v ∷ []
-reach_values UnsafeWindow = []
-reach_values (Export callee scope options) = callee ∷ scope ∷ options ∷ []
-reach_values (CreateIn scope options) = scope ∷ options ∷ []
-reach_values (Clone source scope options functions reflectors) = source ∷ scope ∷ options ∷ []
 
 abbrev pub serve_values : ServeOp → List Value
 serve_values (serve.Set key v) = v ∷ []
@@ -80,12 +70,17 @@ abbrev pub request_objects : Request → List Object
 request_objects (Native member thing arguments) = objects_in arguments
 request_objects (Peek owner place key) = record { owner = owner; place = place } ∷ []
 request_objects (PeekKeys owner place) = record { owner = owner; place = place } ∷ []
-request_objects (Reach operation) = objects_in (reach_values operation)
+request_objects (Reach operation) = objects_in (way_out operation).arguments
 
 -- what an answer names; that of a member names what it holds by requests before
 abbrev pub answer_objects : Request → Answer → List Object
 answer_objects (Native member thing arguments) a = []
 answer_objects request a = objects_in (answer_values a)
+
+-- who holds what an answer names: of a look it is the owner of what is looked at
+abbrev pub answerer : Actor → Request → Actor
+answerer i (Peek owner place key) = owner
+answerer i request = i
 
 -- its owner made an event that carries the object: no closed script gives one away in another way
 abbrev pub gives_away : Object → Mark → Bool

@@ -2,6 +2,7 @@
 use Rattle.std.specs.Prelude.{◌≡◌, ℕ, Bool, true, false, not, List, [], ◌∷◌, ◌++◌, length, nat_lt, slice_get, take, if◌then◌else◌, Option, Some, None, IsSome}
 use Rattle.std.specs.Option.{option_map_or}
 use Rattle.door.specs.declared.limits.TheConstants.{MARK_LIMIT}
+use Rattle.door.specs.declared.values.TheConstants.{PAGE}
 use Rattle.door.specs.declared.values.Actor.{Actor}
 use Rattle.door.specs.declared.values.Value.TheVariants.{Bool as BoolValue}
 use Rattle.door.specs.declared.values.Kind.TheVariants.{Event as EventKind}
@@ -80,17 +81,17 @@ next_of given setting marks = next_after given setting marks (progress_of marks)
 
 -- ---- what is allowed
 
--- only a script's text has faults of syntax
-abbrev pub MayEnd : Entry → Outcome → Type 0
-MayEnd (Script text) outcome = Unit {0}
-MayEnd entry (Syntax at name) = ⊥
-MayEnd entry outcome = Unit {0}
+-- the page's own scripts alone have faults of syntax: other entries read no text, and a userscript that has one is refused before the run
+abbrev pub MayEnd : Actor → Entry → Outcome → Type 0
+MayEnd i (Script text) (Syntax at name) = i ≡ PAGE
+MayEnd i entry (Syntax at name) = ⊥
+MayEnd i entry outcome = Unit {0}
 
 -- the actor asks, dispatches, has another serve, or leaves; neither side of a service is closed
 abbrev pub IsBy : Given → List Mark → Actor → Entry → Mark → Type 0
 IsBy given before i entry (Ask j request answer) = j ≡ i
 IsBy given before i entry (Dispatch j event target) = j ≡ i
-IsBy given before i entry (Leave j outcome units) = (j ≡ i) × MayEnd entry outcome
+IsBy given before i entry (Leave j outcome units) = (j ≡ i) × MayEnd i entry outcome
 IsBy given before i entry (Serve j owner value operation) =
     (j ≡ i) × (has_opened (zone_of given) j before ≡ true) × (has_opened (zone_of given) owner before ≡ true)
 IsBy given before i entry mark = ⊥

@@ -1,6 +1,7 @@
 -- How long an actor is closed; this project's own (after MDN, Xray vision).
 use Rattle.std.specs.Prelude.{◌≡◌, ◌&&◌, ◌||◌, Bool, true, false, List}
 use Rattle.std.specs.List.{list_any}
+use Rattle.door.specs.declared.values.TheConstants.{PAGE}
 use Rattle.door.specs.declared.values.Actor.{Actor}
 use Rattle.door.specs.declared.zones.Zone.{Zone}
 use Rattle.door.specs.declared.zones.Zone.TheVariants.{PlainScript}
@@ -10,7 +11,6 @@ use Rattle.door.specs.declared.marks.Mark.{Mark}
 use Rattle.door.specs.declared.marks.Mark.TheVariants.{Enter, Ask}
 use Rattle.dom_semantics.specs.Fits.{is_script}
 use Rattle.dom_semantics.specs.Things.{is_actor}
-use Rattle.solo_model.specs.Things.{the_page}
 
 abbrev pub Zones : Type 0
 Zones = Actor → Zone
@@ -26,7 +26,7 @@ is_reach request = false
 
 -- where a userscript reaches out, the page is closed no longer, and neither is that script
 abbrev pub concerns : Actor → Actor → Bool
-concerns i script = is_script script && (is_actor i the_page || is_actor i script)
+concerns i script = is_script script && (is_actor i PAGE || is_actor i script)
 
 -- whether the actor is closed no longer by this mark: a userscript asks for a way out, or one that runs among the page's own is entered
 abbrev pub opens : Zones → Actor → Mark → Bool

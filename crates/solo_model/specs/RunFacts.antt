@@ -21,18 +21,21 @@ use Rattle.door.specs.declared.marks.Outcome.TheVariants.{Done, Stop}
 use Rattle.door.specs.declared.marks.StopKind.TheVariants.{Fuel}
 use Rattle.door.specs.declared.marks.Mark.{Mark}
 use Rattle.door.specs.declared.marks.Mark.TheVariants.{Turn, Build, Enter, Ask, Dispatch, Back, Leave}
-use Rattle.dom_semantics.specs.declared.selectors.Part.TheVariants.{Id, Class}
+use Rattle.dom_semantics.specs.declared.selectors.Compound.{Compound}
+use Rattle.dom_semantics.specs.declared.selectors.Part.TheVariants.{Id, Class, Is}
 use Rattle.dom_semantics.specs.declared.selectors.TagTest.TheVariants.{Named}
 use Rattle.dom_semantics.specs.Fits.{is_script}
 use Rattle.dom_semantics.specs.Grants.{no_grants}
 use Rattle.dom_semantics.specs.Things.{thing_of, the_window, the_document}
 use Rattle.dom_semantics.specs.Plays.{Deed, Asks, Sends}
 use Rattle.dom_semantics.specs.SelectorReadingModel.{read_selector}
+use Rattle.dom_semantics.specs.StageOf.{stage_of}
 use Rattle.dom_semantics.specs.Stores.{are_ascending}
-use Rattle.solo_model.specs.Given.{Chains, Piece, Userscript, Moment, AtStart, AtEnd, AtIdle, Line, Click, Input, Event, Tick, Given, are_apart, is_grant_set, line_number, owners_in, setting_of}
+use Rattle.solo_model.specs.Given.{Piece, Userscript, Moment, DocumentStart, DocumentEnd, DocumentIdle, Line, Click, Input, Event, Tick, Given, IsReadOrRefused, are_apart, are_cut, line_number, owners_in, refused_script, setting_of}
 use Rattle.solo_model.specs.Acts.{setups_of}
 use Rattle.solo_model.specs.Genuine.{IsGenuine}
-use Rattle.solo_model.specs.NextMark.{turn_or_nothing, Exactly, Nothing, IsLawful}
+use Rattle.solo_model.specs.Nesting.{progress_of}
+use Rattle.solo_model.specs.NextMark.{turn_or_nothing, waiting_task, Exactly, Nothing, IsLawful, IsCutByTasks, IsCutByMarks}
 use Rattle.solo_model.specs.Runs.{Part, Behaviour, journal_of, tasks_in, entries_in, answers_in}
 
 -- ---- pages
@@ -94,6 +97,10 @@ given_two = given_page (body_begins ++ in_body 3 (codes "p") (codes "id") (codes
 abbrev given_class : Given
 given_class = given_page (body_begins ++ in_body 3 (codes "p") (codes "class") (codes "k") ++ in_body 4 (codes "p") (codes "class") (codes "k"))
 
+-- `<p value="a">`
+abbrev given_value : Given
+given_value = given_page (body_begins ++ in_body 3 (codes "p") (codes "value") (codes "a"))
+
 -- ---- what scripts do
 
 abbrev part : List Deed → Part
@@ -113,14 +120,21 @@ answers_of given behaviour = option_map answers_in (journal_of 400 given behavio
 
 -- ---- selectors
 
-abbrev by_id : List ℕ → Chains
+abbrev by_id : List ℕ → List (List Compound)
 by_id id = (record { tag = None; parts = Id id ∷ [] } ∷ []) ∷ []
 
-abbrev by_tag : List ℕ → Chains
+abbrev by_tag : List ℕ → List (List Compound)
 by_tag tag = (record { tag = Some (Named tag); parts = [] } ∷ []) ∷ []
 
-abbrev by_class : List ℕ → Chains
+abbrev by_class : List ℕ → List (List Compound)
 by_class name = (record { tag = None; parts = Class name ∷ [] } ∷ []) ∷ []
+
+abbrev by_value : List ℕ → List (List Compound)
+by_value text = (record { tag = None; parts = Is (codes "value") text ∷ [] } ∷ []) ∷ []
+
+-- the element of the value `a` gets another one
+abbrev inputs_value : ℕ → List ℕ → Line
+inputs_value k text = Input k (by_value (codes "a")) text
 
 abbrev clicks_p : ℕ → Line
 clicks_p k = Click k (by_id (codes "p"))
@@ -146,12 +160,19 @@ not_selected = record { starter = None; owner = record { namespace = []; name = 
 -- a at idle, b at start, c and e at end; d isn't selected
 abbrev five_scripts : Given
 five_scripts = record given {
-  scripts = script_at (codes "a") AtIdle ∷ script_at (codes "b") AtStart ∷ script_at (codes "c") AtEnd ∷ not_selected
-      ∷ script_at (codes "e") AtEnd ∷ [];
+  scripts = script_at (codes "a") DocumentIdle ∷ script_at (codes "b") DocumentStart ∷ script_at (codes "c") DocumentEnd ∷ not_selected
+      ∷ script_at (codes "e") DocumentEnd ∷ [];
+}
+
+-- three files of one name: the second is refused, and the third has a namespace
+abbrev of_one_name : Given
+of_one_name = record given {
+  scripts = script_at (codes "same") DocumentEnd ∷ refused_script
+      ∷ record (script_at (codes "same") DocumentEnd) { owner = record { namespace = codes "x"; name = codes "same" } } ∷ [];
 }
 
 abbrev three_scripts : Given
-three_scripts = record given { scripts = script_at (codes "a") AtStart ∷ script_at (codes "b") AtEnd ∷ script_at (codes "c") AtIdle ∷ [] }
+three_scripts = record given { scripts = script_at (codes "a") DocumentStart ∷ script_at (codes "b") DocumentEnd ∷ script_at (codes "c") DocumentIdle ∷ [] }
 
 -- each userscript asks how far the document is, and whether it has an element
 abbrev asks_ready : Behaviour
@@ -173,7 +194,7 @@ title_page = record given {
         ∷ creates (codes "body") ∷ appends (element 1) (element 5) ∷ [];
     script = None;
   } ∷ [];
-  scripts = script_at (codes "S") AtEnd ∷ [];
+  scripts = script_at (codes "S") DocumentEnd ∷ [];
 }
 
 abbrev logs : List ℕ → Deed
@@ -242,9 +263,15 @@ polls i entry = part []
 
 abbrev polling : Given
 polling = record given {
-  scripts = script_at (codes "a") AtEnd ∷ [];
+  scripts = script_at (codes "a") DocumentEnd ∷ [];
   lines = Click 1 (by_id (codes "p")) ∷ Tick 2 100 ∷ Click 3 (by_id (codes "p")) ∷ Click 4 (by_id (codes "p")) ∷ Tick 5 500 ∷ [];
 }
+
+-- the page sets two timers, and then a userscript sets two
+abbrev two_timers : Behaviour
+two_timers i (entry.Script text) =
+    part (if is_script i then sets_timer_of 2 120 300 ∷ sets_timer_of 2 50 301 ∷ [] else sets_timer 100 300 ∷ sets_timer 200 301 ∷ [])
+two_timers i entry = part []
 
 -- ---- listeners
 
@@ -272,14 +299,30 @@ start_of_page = (actor 1, entry.Script (codes "page"))
 abbrev Enters : List Line → Behaviour → List (Actor × Entry) → Type 0
 Enters lines behaviour entries = entries_of (with_lines lines) behaviour ≡ Some (start_of_page ∷ entries)
 
+-- the listener of a click on p sets a timer
+abbrev sets_at_click : Behaviour
+sets_at_click i (entry.Script text) = part (listens 1 p (codes "click") 301 ∷ [])
+sets_at_click i (entry.Listener place event current) = part (sets_timer 50 300 ∷ [])
+sets_at_click i entry = part []
+
+abbrev reads_target : Thing → Deed
+reads_target e = Asks m.EventTarget e []
+
+-- of an event its type, whether it is cancelable, bubbles and is trusted, and its target
+abbrev asks_all : Thing → List Deed
+asks_all e = Asks m.EventType e [] ∷ Asks m.EventCancelable e [] ∷ Asks m.EventBubbles e [] ∷ Asks m.EventIsTrusted e [] ∷ reads_target e ∷ []
+
+-- the listener of `input` on p asks for its value, and all about the event
+abbrev reads_value : Behaviour
+reads_value i (entry.Script text) = part (listens 1 p (codes "input") 301 ∷ [])
+reads_value i (entry.Listener place e current) = part (Asks m.ElementGetAttribute p (value.Str (codes "value") ∷ []) ∷ asks_all e)
+reads_value i entry = part []
+
 -- the page listens for clicks on the body; the first event of the scenario is done that, and each later one this
 abbrev on_click : (Thing → List Deed) → (Thing → List Deed) → Behaviour
 on_click first later i (entry.Script text) = part (listens 1 (element 2) (codes "click") 301 ∷ [])
 on_click first later i (entry.Listener place e current) = part (if nat_eq e.number 2 then first e else later e)
 on_click first later i entry = part []
-
-abbrev reads_target : Thing → Deed
-reads_target e = Asks m.EventTarget e []
 
 abbrev done : Answer
 done = tells value.Undefined
@@ -308,11 +351,10 @@ abbrev tells_flag : Bool → Answer
 tells_flag flag = tells (value.Bool flag)
 
 -- the document listens for an event of a line, and asks all about it
-abbrev asks_event : Behaviour
-asks_event i (entry.Script text) = part (listens 1 the_document (codes "my-kind") 301 ∷ [])
-asks_event i (entry.Listener place e current) =
-    part (Asks m.EventType e [] ∷ Asks m.EventCancelable e [] ∷ Asks m.EventBubbles e [] ∷ Asks m.EventIsTrusted e [] ∷ reads_target e ∷ [])
-asks_event i entry = part []
+abbrev asks_event : List ℕ → Behaviour
+asks_event kind i (entry.Script text) = part (listens 1 the_document kind 301 ∷ [])
+asks_event kind i (entry.Listener place e current) = part (asks_all e)
+asks_event kind i entry = part []
 
 -- ---- limits of dispatches
 
@@ -333,9 +375,16 @@ are_counted lines = are_ascending nat_lt (0 ∷ map line_number lines)
 abbrev are_owners_apart : Given → Bool
 are_owners_apart given = are_apart (owners_in given.scripts)
 
--- two scripts of one name
+-- two scripts of one name, of which both start or one
 abbrev twice : Given
-twice = record given { scripts = script_at (codes "a") AtStart ∷ script_at (codes "a") AtEnd ∷ [] }
+twice = record given { scripts = script_at (codes "a") DocumentStart ∷ script_at (codes "a") DocumentEnd ∷ [] }
+
+abbrev twice_read : Given
+twice_read = record given { scripts = script_at (codes "d") DocumentStart ∷ not_selected ∷ [] }
+
+-- what waits at the end of a journal
+abbrev waiting : Given → List Mark → Option Task
+waiting given marks = waiting_task given (stage_of (setting_of given marks) marks) (progress_of marks)
 
 pub record RunFacts : Type 0 where
   -- document-start, the pieces, DOMContentLoaded, document-end, load, document-idle, each in the order of file names
@@ -362,6 +411,17 @@ pub record RunFacts : Type 0 where
   -- no delay counts as 0
   pub no_delay : Does (Tick 1 0 ∷ [])
       (timed (Asks m.WindowSetTimeout the_window (value.Cell (actor 1) 300 Function false ∷ value.Undefined ∷ []) ∷ []) 0 []) (timer 1 ∷ [])
+  -- two that are set by the first, of which one has no delay: what Gecko printed
+  pub again : Does (Tick 1 500 ∷ [])
+      (timed (sets_timer 100 300 ∷ sets_timer 150 301 ∷ sets_timer 300 302 ∷ []) 300 (sets_timer 100 303 ∷ sets_timer 0 304 ∷ []))
+      (timer 1 ∷ timer 5 ∷ timer 2 ∷ timer 4 ∷ timer 3 ∷ [])
+  -- a timer that is set at a line is due by the ticks before that line
+  pub clock_of_line : Does (Tick 1 100 ∷ clicks_p 2 ∷ Tick 3 49 ∷ []) sets_at_click (task.Line 2 ∷ [])
+  pub due_after_line : Does (Tick 1 100 ∷ clicks_p 2 ∷ Tick 3 49 ∷ Tick 4 1 ∷ []) sets_at_click (task.Line 2 ∷ timer 1 ∷ [])
+  -- the timers of two actors go by one clock: what Gecko printed
+  pub two_actors : tasks_of (record given { scripts = script_at (codes "a") DocumentEnd ∷ []; lines = Tick 1 300 ∷ [] }) two_timers
+      ≡ Some (task.Piece 0 ∷ task.Piece 1 ∷ task.Ready ∷ task.Start 0 ∷ task.Load ∷ task.Timer (actor 2) 2 ∷ task.Timer (actor 1) 1
+      ∷ task.Timer (actor 2) 1 ∷ task.Timer (actor 1) 2 ∷ [])
   -- three polls of a userscript with clicks between: eleven tasks
   pub eleven : tasks_of polling polls
       ≡ Some (task.Piece 0 ∷ task.Piece 1 ∷ task.Ready ∷ task.Start 0 ∷ task.Load ∷ task.Line 1 ∷ task.Timer (actor 2) 1 ∷ task.Line 3 ∷ task.Line 4
@@ -369,6 +429,13 @@ pub record RunFacts : Type 0 where
   -- a click reaches both listeners though the first was stopped; the input line sets the value first, so its own selector counts before
   pub stopped : Enters (Click 2 (by_id (codes "p")) ∷ []) clicked (called 301 2 ∷ called 302 2 ∷ [])
   pub input : Enters (Input 1 (by_tag (codes "p")) (codes "v") ∷ []) clicked (called 303 2 ∷ [])
+  -- an input line finds its target before it sets the value, and then sends an event that bubbles and isn't cancelable; the next one goes by the
+  -- value that is there then, and takes nothing
+  pub own_selector : answers_of (record given_value { lines = inputs_value 1 (codes "b") ∷ inputs_value 2 (codes "c") ∷ [] }) reads_value
+      ≡ Some (done ∷ tells_text (codes "b") ∷ tells_text (codes "input") ∷ tells_flag false ∷ tells_flag true ∷ tells_flag true ∷ tells (value.Thing p) ∷ [])
+  -- a click bubbles and is cancelable
+  pub click_line : answers_of (with_lines (clicks_p 1 ∷ [])) (asks_event (codes "click"))
+      ≡ Some (done ∷ tells_text (codes "click") ∷ tells_flag true ∷ tells_flag true ∷ tells_flag true ∷ tells (value.Thing p) ∷ [])
   -- a line whose selector takes nothing is a task all the same
   pub missed : Does (Click 3 (by_id (codes "none")) ∷ []) quiet (task.Line 3 ∷ [])
   -- p is clicked and removed, then it is missed, and then the div is clicked: what Gecko printed
@@ -381,7 +448,8 @@ pub record RunFacts : Type 0 where
   pub trusted : answers_of (with_lines (Click 1 (by_id (codes "p")) ∷ Event 2 (by_tag (codes "body")) (codes "go") ∷ [])) dispatches_again
       ≡ Some (done ∷ done ∷ tells_flag true ∷ tells_flag false ∷ tells_flag false ∷ [])
   -- an event by its name bubbles, and is cancelable and trusted; two lines are missed: what Gecko printed
-  pub event_line : answers_of (record given_two { lines = sends_kind 3 (codes "d") ∷ sends_kind 4 (codes "zz") ∷ Click 5 (by_id (codes "zz")) ∷ [] }) asks_event
+  pub event_line : answers_of (record given_two { lines = sends_kind 3 (codes "d") ∷ sends_kind 4 (codes "zz") ∷ Click 5 (by_id (codes "zz")) ∷ [] })
+      (asks_event (codes "my-kind"))
       ≡ Some (done ∷ tells_text (codes "my-kind") ∷ tells_flag true ∷ tells_flag true ∷ tells_flag true ∷ tells (value.Thing d) ∷ [])
   -- at most four dispatches of an actor are unfinished: the fifth is refused, so the listener is called four times
   pub four : Enters [] nests (called 300 0 ∷ called 300 1 ∷ called 300 2 ∷ called 300 3 ∷ [])
@@ -391,7 +459,17 @@ pub record RunFacts : Type 0 where
   -- that journal is lawful, and all that it says is true
   pub lawful : IsLawful title_page title_journal
   pub genuine : IsGenuine (setups_of title_page) (setting_of title_page title_journal) title_journal
-  -- lines are counted from 1, upwards; scripts that start share no values; `@grant none` stands alone
+  -- no task waits at its end, and one does where the scenario has a line more; it isn't cut off
+  pub none_waits : waiting title_page title_journal ≡ None
+  pub waits : waiting (record title_page { lines = clicks_p 1 ∷ [] }) title_journal ≡ Some (task.Line 1)
+  pub not_by_tasks : IsCutByTasks title_page title_journal → ⊥
+  pub not_by_marks : IsCutByMarks title_page title_journal → ⊥
+  -- the page is cut at its scripts, and has a last piece without one
+  pub cut : are_cut given.pieces ∷ are_cut title_page.pieces ∷ are_cut [] ∷ are_cut (piece [] ∷ []) ∷ are_cut (nothing_more ∷ nothing_more ∷ []) ∷ []
+      ≡ true ∷ true ∷ false ∷ false ∷ false ∷ []
+  -- lines are counted from 1, upwards; scripts that were read share no values, also where one of them doesn't start
   pub counted : are_counted polling.lines ∷ are_counted (clicks_p 2 ∷ clicks_p 1 ∷ []) ∷ are_counted (clicks_p 0 ∷ []) ∷ [] ≡ true ∷ false ∷ false ∷ []
-  pub apart : are_owners_apart five_scripts ∷ are_owners_apart twice ∷ [] ≡ true ∷ false ∷ []
-  pub alone : is_grant_set (record no_grants { no_grant = true }) ∷ is_grant_set (record logging { no_grant = true }) ∷ [] ≡ true ∷ false ∷ []
+  pub apart : map are_owners_apart (five_scripts ∷ of_one_name ∷ twice ∷ twice_read ∷ []) ≡ true ∷ true ∷ false ∷ false ∷ []
+  -- a refused script doesn't start
+  pub refused : IsReadOrRefused refused_script
+  pub not_refused : IsReadOrRefused (record refused_script { starter = Some (record { text = codes "S"; moment = DocumentEnd }) }) → ⊥

@@ -62,24 +62,31 @@ abbrev pub acts : Setting → Actor → Run → List Part → Run
 acts setting i r [] = r
 acts setting i r (part ∷ outer) = goes_on setting i outer part r part.deeds
 
--- none where the run is at its end
-abbrev pub goes : Behaviour → Setting → Run → Next → Option Run
-goes behaviour setting r (Exactly mark) = Some (entered behaviour mark (marked mark r))
-goes behaviour setting r (ByActor i entry) = Some (acts setting i r r.parts)
-goes behaviour setting r (ByReturn i outcome) = None
-goes behaviour setting r Nothing = None
+-- a run is a mark further, it is at its end, or no part says what comes, as of a service
+pub data Pace : Type 0 where
+  Further : Run → Pace
+  Ended : Pace
+  Untold : Pace
 
-abbrev pub next_in_run : Given → Setting → Behaviour → Run → Option Run
+abbrev pub goes : Behaviour → Setting → Run → Next → Pace
+goes behaviour setting r (Exactly mark) = Further (entered behaviour mark (marked mark r))
+goes behaviour setting r (ByActor i entry) = Further (acts setting i r r.parts)
+goes behaviour setting r (ByReturn i outcome) = Untold
+goes behaviour setting r Nothing = Ended
+
+abbrev pub next_in_run : Given → Setting → Behaviour → Run → Pace
 next_in_run given setting behaviour r = goes behaviour setting r (next_of given setting r.marks)
 
--- at most so many marks are made; none where the run isn't at its end then
-abbrev pub or_marks : List Mark → Option Run → (Run → Option (List Mark)) → Option (List Mark)
-or_marks marks None later = Some marks
-or_marks marks (Some r) later = later r
+-- the journal of a run that is at its end, or else what comes of the run that is further
+abbrev pub or_end : List Mark → Pace → (Run → Option (List Mark)) → Option (List Mark)
+or_end marks (Further r) later = later r
+or_end marks Ended later = Some marks
+or_end marks Untold later = None
 
+-- at most so many marks are made; none where the run isn't at its end then
 unfoldable pub ran : ℕ → Given → Behaviour → Run → Option (List Mark)
 ran zero given behaviour r = None
-ran (suc n) given behaviour r = or_marks r.marks (next_in_run given (setting_of given r.marks) behaviour r) (λ next. ran n given behaviour next)
+ran (suc n) given behaviour r = or_end r.marks (next_in_run given (setting_of given r.marks) behaviour r) (λ next. ran n given behaviour next)
 
 abbrev pub nothing_yet : Run
 nothing_yet = record { marks = []; parts = [] }

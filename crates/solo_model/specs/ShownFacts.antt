@@ -1,5 +1,5 @@
 -- What an Xray shows of an object, and what actors see of marks, computed by the definitions alone.
-use Rattle.std.specs.Prelude.{◌≡◌, ℕ, Bool, true, false, List, [], ◌∷◌, ◌++◌, codes, Some, None, pos}
+use Rattle.std.specs.Prelude.{◌≡◌, ℕ, true, false, List, [], ◌∷◌, ◌++◌, codes, Some, None, pos}
 use Rattle.door.specs.declared.values.Actor.{Actor}
 use Rattle.door.specs.declared.values.Kind.TheVariants.{Element, Event}
 use Rattle.door.specs.declared.values.Shape.TheVariants as shape
@@ -22,8 +22,8 @@ use Rattle.js_semantics.specs.Machine.{Machine, Cell, Plain, Array, Own, Slot, D
 use Rattle.js_semantics.specs.Intrinsics.{Setup, fresh}
 use Rattle.js_semantics.specs.Solo.{Dispatches, Leaves}
 use Rattle.solo_model.specs.Shown.{peeked_answer, peeked_keys_answer}
-use Rattle.solo_model.specs.ActorView.{Entered, Asked, Said, Returned, Peeked, view_of}
-use Rattle.solo_model.specs.ViewDeeds.{Says, Backs, Enters, deeds_of, shows_of}
+use Rattle.solo_model.specs.ActorView.{Entered, Asked, Said, Returned, view_of}
+use Rattle.solo_model.specs.ViewDeeds.{Requests, Says, Answers, Backs, Enters, deeds_of, shows_of}
 
 -- ---- an object of the page
 
@@ -91,6 +91,23 @@ journal =
     ∷ mark.Ask script (Peek page 300 (codes "a")) (answer.Value (door.Number (pos 1)))
     ∷ leaves ∷ []
 
+-- the script asks for the nodes of a list, and then for the parent of its last
+abbrev asks_list : List Mark
+asks_list =
+    mark.Ask script (Native m.NodeChildNodes (element 9) []) (answer.List (door.Thing (element 5) ∷ door.Thing (element 5) ∷ door.Thing (element 4) ∷ []))
+    ∷ mark.Ask script (Native m.NodeParentNode (element 4) []) (answer.Value (door.Thing (element 9))) ∷ []
+
+-- looks that tell objects of others: one of the page, one that is the script's own, and the first again
+abbrev looks : List Mark
+looks =
+    mark.Ask script (Peek page 300 (codes "a")) (answer.Value (door.Cell page 305 shape.Plain false))
+    ∷ mark.Ask script (Peek page 305 (codes "b")) (answer.Value (door.Cell script 301 shape.Plain false))
+    ∷ mark.Ask script (Peek page 305 (codes "c")) (answer.Value (door.Cell page 300 shape.Plain false)) ∷ []
+
+-- an event carries an object of the page
+abbrev carried : List Mark
+carried = mark.Ask script (Native m.EventDetail (event 7) []) (answer.Value (door.Cell page 300 shape.Plain false)) ∷ []
+
 pub record ShownFacts : Type 0 where
   -- no accessor, no function, no key of Object.prototype
   pub keys : peeked_keys_answer machine 300 ≡ answer.Keys (codes "a" ∷ codes "list" ∷ [])
@@ -112,8 +129,22 @@ pub record ShownFacts : Type 0 where
       ∷ Asked (Native m.WindowSetTimeout the_window (callback the_host ∷ door.Undefined ∷ [])) (answer.Value (door.Number (pos 1)))
       ∷ Asked (Native m.EventDetail (event 1) []) (answer.Value (door.Cell page 0 shape.Plain false))
       ∷ Asked (Peek page 0 (codes "a")) (answer.Value (door.Number (pos 1))) ∷ Said (Leaves Done 4) ∷ []
-  -- the page sees the look at its object alone, and another script nothing
-  pub owner_view : view_of page journal ≡ Peeked 300 (codes "a") (answer.Value (door.Number (pos 1))) ∷ []
+  -- things of a list are met in its order, each once
+  pub of_list : deeds_of (view_of script (starts ∷ asks_list))
+      ≡ Requests (Native m.NodeChildNodes (element 2) []) ∷ Requests (Native m.NodeParentNode (element 4) []) ∷ []
+  pub list_shows : shows_of (view_of script (starts ∷ asks_list))
+      ≡ Enters (entry.Listener 301 (event 1) (element 2))
+      ∷ Answers (answer.List (door.Thing (element 3) ∷ door.Thing (element 3) ∷ door.Thing (element 4) ∷ []))
+      ∷ Answers (answer.Value (door.Thing (element 2))) ∷ []
+  -- objects of others are met in the same way, and an own one isn't
+  pub objects : deeds_of (view_of script (carried ++ looks))
+      ≡ Requests (Native m.EventDetail (event 1) []) ∷ Requests (Peek page 0 (codes "a")) ∷ Requests (Peek page 1 (codes "b"))
+      ∷ Requests (Peek page 1 (codes "c")) ∷ []
+  pub object_shows : shows_of (view_of script (carried ++ looks))
+      ≡ Answers (answer.Value (door.Cell page 0 shape.Plain false)) ∷ Answers (answer.Value (door.Cell page 1 shape.Plain false))
+      ∷ Answers (answer.Value (door.Cell the_host 301 shape.Plain false)) ∷ Answers (answer.Value (door.Cell page 0 shape.Plain false)) ∷ []
+  -- the page sees nothing of it, not even the look at its object, and another script nothing
+  pub owner_view : view_of page journal ≡ []
   pub other_view : view_of other journal ≡ []
   -- a refused dispatch and one that isn't are one deed; what comes back differs
   pub same_deeds : deeds_of (view_of script (starts ∷ refused ∷ leaves ∷ [])) ≡ deeds_of (view_of script (starts ∷ dispatched ++ leaves ∷ []))

@@ -7,7 +7,7 @@ use Rattle.door.specs.declared.marks.Task.{Task}
 use Rattle.door.specs.declared.marks.Task.TheVariants.{Start, Piece as PieceTask, Ready, Load, Line as LineTask, Timer as TimerTask}
 use Rattle.dom_semantics.specs.declared.timers.Timer.{Timer}
 use Rattle.dom_semantics.specs.Timers.{next_due}
-use Rattle.solo_model.specs.Given.{Piece, Moment, AtStart, AtEnd, AtIdle, Starter, Userscript, Line, Click, Input, Event, Tick, Given, line_number, clock_before}
+use Rattle.solo_model.specs.Given.{Piece, Moment, DocumentStart, DocumentEnd, DocumentIdle, Starter, Userscript, Line, Click, Input, Event, Tick, Given, line_number, clock_before}
 
 -- the most tasks of a run; named here again so that proofs don't compute it
 unfoldable pub TASK_LIMIT : ℕ
@@ -16,9 +16,9 @@ TASK_LIMIT = limits.TASK_LIMIT
 -- ---- before the scenario
 
 abbrev pub is_moment : Moment → Moment → Bool
-is_moment AtStart AtStart = true
-is_moment AtEnd AtEnd = true
-is_moment AtIdle AtIdle = true
+is_moment DocumentStart DocumentStart = true
+is_moment DocumentEnd DocumentEnd = true
+is_moment DocumentIdle DocumentIdle = true
 is_moment a b = false
 
 abbrev pub starts_then : Moment → Option Starter → Bool
@@ -37,8 +37,8 @@ pieces_from n (piece ∷ pieces) = PieceTask n ∷ pieces_from (n + 1) pieces
 -- document-start, the page in pieces, DOMContentLoaded, document-end, load, document-idle (HTML, The end)
 abbrev pub first_tasks : Given → List Task
 first_tasks given =
-    starts_at AtStart 0 given.scripts ++ (pieces_from 0 given.pieces ++ (Ready ∷ (starts_at AtEnd 0 given.scripts
-    ++ (Load ∷ starts_at AtIdle 0 given.scripts))))
+    starts_at DocumentStart 0 given.scripts ++ (pieces_from 0 given.pieces ++ (Ready ∷ (starts_at DocumentEnd 0 given.scripts
+    ++ (Load ∷ starts_at DocumentIdle 0 given.scripts))))
 
 -- ---- the scenario
 

@@ -2,6 +2,7 @@
 use Rattle.std.specs.Prelude.{◌+◌, ℕ, Bool, true, false, List, [], ◌∷◌, ◌++◌, map, codes, length, nat_eq, slice_get, slice_index_or, if◌then◌else◌, option_and_then, Option, Some, None}
 use Rattle.std.specs.List.{find}
 use Rattle.std.specs.Option.{option_map_or}
+use Rattle.door.specs.declared.values.TheConstants.{PAGE}
 use Rattle.door.specs.declared.values.Actor.{Actor}
 use Rattle.door.specs.declared.values.Thing.{Thing}
 use Rattle.door.specs.declared.values.Value.{Value}
@@ -15,14 +16,15 @@ use Rattle.door.specs.declared.marks.Entry.{Entry}
 use Rattle.door.specs.declared.marks.Entry.TheVariants.{Script, Timer as TimerEntry}
 use Rattle.door.specs.declared.marks.Mark.{Mark}
 use Rattle.door.specs.declared.marks.Mark.TheVariants.{Build, Enter, Dispatch}
+use Rattle.dom_semantics.specs.declared.selectors.Compound.{Compound}
 use Rattle.dom_semantics.specs.declared.timers.Timer.{Timer}
 use Rattle.dom_semantics.specs.Forest.{Forest, the_host}
 use Rattle.dom_semantics.specs.Things.{the_window, the_document, is_node_kind, is_actor, node_thing}
 use Rattle.dom_semantics.specs.Timers.{timer_of}
 use Rattle.dom_semantics.specs.Queries.{selected}
 use Rattle.dom_semantics.specs.Stage.{Stage}
-use Rattle.solo_model.specs.Given.{Chains, Piece, Starter, Userscript, Line, Click, Input, Event, Tick, Given, line_number}
-use Rattle.solo_model.specs.Things.{the_page, userscript}
+use Rattle.solo_model.specs.Given.{Piece, Starter, Userscript, Line, Click, Input, Event, Tick, Given, line_number}
+use Rattle.solo_model.specs.Things.{userscript}
 
 -- one thing that the host does: a request; a request of a piece, where nodes go by their numbers among the page's own; an entry; a dispatch
 pub data Step : Type 0 where
@@ -53,7 +55,7 @@ placed_request f request = request
 
 abbrev pub script_steps : Option (List ℕ) → List Step
 script_steps None = []
-script_steps (Some text) = Enters the_page (Script text) ∷ []
+script_steps (Some text) = Enters PAGE (Script text) ∷ []
 
 abbrev pub piece_steps : Option Piece → List Step
 piece_steps None = []
@@ -68,7 +70,7 @@ event_steps s kind bubbles cancelable target =
     ∷ (Sends (length s.events) target ∷ [])
 
 -- the first element that the selector takes, in tree order
-abbrev pub target_in : Forest → Chains → Option Thing
+abbrev pub target_in : Forest → List (List Compound) → Option Thing
 target_in f chains = option_map_or (λ n. Some (node_thing f n)) (slice_get (selected f 0 chains) 0) None
 
 -- the element's value is set, and then it gets the event

@@ -1,6 +1,10 @@
 -- What a request for a way out is answered, as far as its own values decide it (MDN, cloneInto, exportFunction, createObjectIn, waivers; the
 -- texts of the refusals are this project's own).
-use Rattle.std.specs.Prelude.{◌≡◌, ◌⊎◌, ◌≤◌, ◌&&◌, ◌||◌, ℕ, Bool, true, false, not, List, [], ◌∷◌, ◌++◌, codes, length}
+use Rattle.std.specs.Prelude.{◌≡◌, ◌⊎◌, ◌&&◌, ◌||◌, ℕ, Bool, true, false, not, List, [], ◌∷◌, ◌++◌, codes, filter, take}
+use Rattle.std.specs.Fmt.{decimal}
+use Rattle.std.specs.List.{flat_map}
+use Rattle.std.specs.Str.{bytes_eq}
+use Rattle.door.specs.declared.values.TheConstants.{PAGE}
 use Rattle.door.specs.declared.values.Actor.{Actor}
 use Rattle.door.specs.declared.values.Shape.{Shape}
 use Rattle.door.specs.declared.values.Shape.TheVariants as shape
@@ -15,7 +19,6 @@ use Rattle.dom_semantics.specs.Things.{is_actor, is_thing, the_window}
 use Rattle.dom_semantics.specs.Crossings.{SCOPE_DENIED, is_in, walk_refusals}
 use Rattle.dom_semantics.specs.Fits.{is_function_shape}
 use Rattle.dom_semantics.specs.declared.crossings.TheConstants.{PATH_LIMIT}
-use Rattle.solo_model.specs.Things.{the_page}
 
 -- ---- values
 
@@ -39,7 +42,7 @@ is_own i v = false
 abbrev pub is_scope : Value → Bool
 is_scope (value.Thing thing) = is_thing the_window thing
 is_scope (value.WaivedThing thing) = true
-is_scope (value.Cell owner place shape waived) = is_actor owner the_page && waived
+is_scope (value.Cell owner place shape waived) = is_actor owner PAGE && waived
 is_scope v = false
 
 -- ---- answers
@@ -51,7 +54,7 @@ Unless false kind answer Then = Then
 
 -- a waived object of the page of this shape
 abbrev pub IsOfPage : Shape → Answer → Type 0
-IsOfPage shape answer = (place : ℕ) × (answer ≡ ValueAnswer (value.Cell the_page place shape true))
+IsOfPage shape answer = (place : ℕ) × (answer ≡ ValueAnswer (value.Cell PAGE place shape true))
 
 -- ---- clones
 
@@ -59,33 +62,63 @@ IsOfPage shape answer = (place : ℕ) × (answer ≡ ValueAnswer (value.Cell the
 abbrev pub refused_at : List ℕ → List ℕ → Answer
 refused_at fault path = Throw (Crossing (fault ++ (codes " at " ++ path)))
 
--- the refusal of a value inside the source: its path begins with the way into it
-pub record IsRefusedWithin (way : List ℕ) (answer : Answer) : Type 0 where
+-- the refusals that the options leave: functions that are cloned and things that are wrapped are none (MDN, cloneInto, options)
+abbrev pub is_left : (functions reflectors : Bool) → List ℕ → Bool
+is_left functions reflectors fault = not ((functions && bytes_eq fault (codes "IsFunction")) || (reflectors && bytes_eq fault (codes "IsThing")))
+
+abbrev pub faults_left : (functions reflectors : Bool) → List (List ℕ)
+faults_left functions reflectors = filter (is_left functions reflectors) walk_refusals
+
+-- a step of the path to a value inside of what is cloned: from an object by a key, or from an array by a place
+pub data PathStep : Type 0 where
+  ToKey : (key : List ℕ) → PathStep
+  ToPlace : (place : ℕ) → PathStep
+
+abbrev pub step_text : PathStep → List ℕ
+step_text (ToKey key) = codes "." ++ key
+step_text (ToPlace place) = codes "[" ++ (decimal place ++ codes "]")
+
+-- the path of these steps, cut at its limit
+abbrev pub path_of : List PathStep → List ℕ
+path_of steps = take PATH_LIMIT (flat_map step_text steps)
+
+-- a plain object is left by a key, an array by a place
+abbrev pub is_step_in : Shape → PathStep → Bool
+is_step_in shape.Plain (ToKey key) = true
+is_step_in shape.Array (ToPlace place) = true
+is_step_in shape step = false
+
+-- the refusal of a value inside a source of this shape
+pub record IsRefusedWithin (shape : Shape) (faults : List (List ℕ)) (answer : Answer) : Type 0 where
   pub fault : List ℕ
-  pub rest : List ℕ
-  pub known : is_in walk_refusals fault ≡ true
-  pub short : length (way ++ rest) ≤ PATH_LIMIT
-  pub same : answer ≡ refused_at fault (way ++ rest)
+  pub first : PathStep
+  pub later : List PathStep
+  pub within : is_step_in shape first ≡ true
+  pub known : is_in faults fault ≡ true
+  pub same : answer ≡ refused_at fault (path_of (first ∷ later))
 
 -- an own plain object or array is copied, or refused for what is inside; an own function becomes one of the page where functions are cloned
-abbrev pub IsCloneOf : Shape → (functions : Bool) → Answer → Type 0
-IsCloneOf shape.Plain functions answer = IsOfPage shape.Plain answer ⊎ IsRefusedWithin (codes ".") answer
-IsCloneOf shape.Array functions answer = IsOfPage shape.Array answer ⊎ IsRefusedWithin (codes "[") answer
-IsCloneOf shape.Function true answer = IsOfPage shape.Function answer
-IsCloneOf shape.Function false answer = answer ≡ refused_at (codes "IsFunction") []
-IsCloneOf shape.Error functions answer = answer ≡ refused_at (codes "IsForeign") []
+abbrev pub IsCloneOf : Shape → (functions reflectors : Bool) → Answer → Type 0
+IsCloneOf shape.Plain functions reflectors answer =
+    IsOfPage shape.Plain answer ⊎ IsRefusedWithin shape.Plain (faults_left functions reflectors) answer
+IsCloneOf shape.Array functions reflectors answer =
+    IsOfPage shape.Array answer ⊎ IsRefusedWithin shape.Array (faults_left functions reflectors) answer
+IsCloneOf shape.Function true reflectors answer = IsOfPage shape.Function answer
+IsCloneOf shape.Function false reflectors answer = answer ≡ refused_at (codes "IsFunction") []
+IsCloneOf shape.Error functions reflectors answer = answer ≡ refused_at (codes "IsForeign") []
 
 -- only own objects are walked
-abbrev pub IsCloneIf : Bool → Shape → (functions : Bool) → Answer → Type 0
-IsCloneIf true shape functions answer = IsCloneOf shape functions answer
-IsCloneIf false shape functions answer = answer ≡ refused_at (codes "IsForeign") []
+abbrev pub IsCloneIf : Bool → Shape → (functions reflectors : Bool) → Answer → Type 0
+IsCloneIf true shape functions reflectors answer = IsCloneOf shape functions reflectors answer
+IsCloneIf false shape functions reflectors answer = answer ≡ refused_at (codes "IsForeign") []
 
 -- a thing becomes the page's where things are wrapped; a primitive is itself
 abbrev pub IsClone : Actor → Value → (functions reflectors : Bool) → Answer → Type 0
 IsClone i (value.Thing thing) functions true answer = answer ≡ ValueAnswer (value.WaivedThing thing)
 IsClone i (value.Thing thing) functions false answer = answer ≡ refused_at (codes "IsThing") []
 IsClone i (value.WaivedThing thing) functions reflectors answer = answer ≡ refused_at (codes "IsForeign") []
-IsClone i (value.Cell owner place shape waived) functions reflectors answer = IsCloneIf (is_actor owner i && not waived) shape functions answer
+IsClone i (value.Cell owner place shape waived) functions reflectors answer =
+    IsCloneIf (is_actor owner i && not waived) shape functions reflectors answer
 IsClone i source functions reflectors answer = answer ≡ ValueAnswer source
 
 -- ---- each way out

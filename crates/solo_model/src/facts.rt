@@ -1,5 +1,6 @@
 //! What hand-made journals and small runs come to by the definitions, as the contracts of functions that do nothing.
 
+ghost use Rattle.solo_model.specs.ActsFacts.{ActsFacts};
 ghost use Rattle.solo_model.specs.GenuineFacts.{GenuineFacts, OrderFacts, WaysOutFacts};
 ghost use Rattle.solo_model.specs.RunFacts.{RunFacts};
 ghost use Rattle.solo_model.specs.ShownFacts.{ShownFacts};
@@ -27,4 +28,9 @@ pub fn truths_are_computed()
 /// How ways out are answered, and what they open.
 pub fn ways_out_are_computed()
     ensures { WaysOutFacts }
+{}
+
+/// What actors do while they are closed.
+pub fn acts_are_computed()
+    ensures { ActsFacts }
 {}

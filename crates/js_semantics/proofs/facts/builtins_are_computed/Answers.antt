@@ -13,18 +13,19 @@ use Rattle.js_semantics.specs.Intrinsics.{fresh}
 use Rattle.js_semantics.specs.Meaning.{evaluator, with_level}
 use Rattle.js_semantics.specs.Members.{found_within}
 use Rattle.js_semantics.specs.Names.{bound_within}
-use Rattle.js_semantics.specs.Operations.{is_above}
+use Rattle.js_semantics.specs.Operations.{is_above, above_row}
 use Rattle.js_semantics.specs.Programs.{left}
 use Rattle.js_semantics.proofs.facts.builtins_are_computed.Goals as goal
 
 pub returns : goal.returns
-unfolding encode_utf8 digits evaluator with_level found_within bound_within within is_above fresh left out-Expr out-ForStart out-ForTarget out-Property out-Stmt out shown hidden b.shown-the_row-Expr-0 b.shown-the_row-Property-1 b.shown-the_row-Stmt-2 b.shown-the_row-Function-3 b.shown-the_row-Expr-4 b.shown-the_row-Declaration-5 b.shown-the_row-Stmt-6
+unfolding encode_utf8 digits evaluator with_level found_within bound_within within is_above above_row fresh left out-Expr out-ForStart out-ForTarget out-Property out-Stmt out shown hidden b.shown-the_row-Expr-0 b.shown-the_row-Property-1 b.shown-the_row-Stmt-2 b.shown-the_row-Function-3 b.shown-the_row-Expr-4 b.shown-the_row-Declaration-5 b.shown-the_row-Stmt-6
 returns c = record {
   keys = refl;
   prototype = refl;
   ring = refl;
   defined = refl;
   applied = refl;
+  applied_to_none = refl;
   moved = refl;
   split = refl;
   parts = refl;

@@ -18,7 +18,7 @@ returns-in_err-charge-2-clause-keeps c = λ _. keeps_none _ _ _ _ c.requires.sou
 pub returns-clause-own : goal.returns-clause-own
 returns-clause-own c = λ s k c' h.
     let asks = c.in_ok-charge-2.ensures.own s _ _ _ c' (c.in_ok-charge.ensures.own s _ _ _ c' h) in
-    document_told s _ _ _ k c' _ c.in_ok-tell.ensures.met (c.in_ok-tell.ensures.own s _ _ (window_asked _ _ _ _ [] (ap (map _) c.new.ensures)) asks)
+    document_told s _ _ _ k _ c.in_ok-tell.ensures.met (c.in_ok-tell.ensures.own s _ _ (window_asked _ _ _ _ [] (ap (map _) c.new.ensures)) asks)
 
 pub returns-clause-keeps : goal.returns-clause-keeps
 returns-clause-keeps c = λ _. keeps_one _ _ _ _ _ _ _ c.in_ok-tell.ensures.sound (journal_of _ _ _ c.in_ok-tell.ensures.ok) (omega (arith, c.in_ok-charge.ensures.spent, c.in_ok-charge-2.ensures.spent)) (headed_still _ _ _ c.in_ok-tell.ensures.ok) (own_still _ _ _ c.in_ok-tell.ensures.ok)

@@ -1,9 +1,10 @@
-use Rattle.std.proofs.Common.{ap, refl, sym, subst, [], ◌∷◌, ◌∙◌}
+use Rattle.std.proofs.Common.{ap, refl, sym, subst, Some, [], ◌∷◌, ◌∙◌}
 use Rattle.std.proofs.lemmas.Result.{err_from_is_err_and}
 use Rattle.door.specs.declared.values.Value.TheVariants.{Str as StrValue}
 use Rattle.small_eval.specs.Heads.{IsHeaded}
 use Rattle.small_eval.proofs.Sound.{headed_still, own_still, journal_of, keeps_none, keeps_one, text_asked}
-use Rattle.small_eval.proofs.Titles.{headed_set, on_none, on_some, set_ready_none}
+use Rattle.small_eval.proofs.Rows.{stands_at}
+use Rattle.small_eval.proofs.Titles.{headed_set, on_none, on_some, set_ready_none, title_thrown}
 use Rattle.small_eval.proofs.ask.ask_set_title.Goals as goal
 
 pub returns-in_err-charge-clause-own : goal.returns-in_err-charge-clause-own
@@ -26,7 +27,10 @@ returns-in_ok-tell-in-None-clause-keeps c = λ _.
     (λ h. headed_still _ _ _ c.in_ok-tell-in-None.ensures.ok (subst IsHeaded (sym (on_none _ _ _ c.in-None.is c.in_ok-set_title.ensures.tree)) (headed_set _ _ _ h))) (own_still _ _ _ c.in_ok-tell-in-None.ensures.ok)
 
 pub returns-in_ok-tell-in-Some-clause-own : goal.returns-in_ok-tell-in-Some-clause-own
-returns-in_ok-tell-in-Some-clause-own c = λ s k c' h. rw (sym c.in_ok-share-in-Some.ensures) (c.in_ok-tell-in-Some.ensures.own s _ _ (text_asked _ _ _ _ _ _ _ _ _ refl refl c.in_ok-arguments.ensures c.in_ok-share.ensures) (c.in_ok-charge.ensures.own s _ _ _ c' h))
+returns-in_ok-tell-in-Some-clause-own c = λ s k c' h.
+    let told = c.in_ok-tell-in-Some.ensures.own s _ _ (text_asked _ _ _ _ _ _ _ _ _ refl refl c.in_ok-arguments.ensures c.in_ok-share.ensures) (c.in_ok-charge.ensures.own s _ _ _ c' h) in
+    let refusal = sym c.in_ok-set_title.ensures.refusal ∙ c.in-Some.is ∙ ap Some (sym c.in_ok-share-in-Some.ensures) in
+    rw (sym c.in_ok-share-in-Some.ensures) (stands_at s _ _ _ _ (title_thrown c.args.world.now.tree c.args.actor c.args.text.now _ k c' _ refusal) told)
 
 pub returns-in_ok-tell-in-Some-clause-keeps : goal.returns-in_ok-tell-in-Some-clause-keeps
 returns-in_ok-tell-in-Some-clause-keeps c = λ _.

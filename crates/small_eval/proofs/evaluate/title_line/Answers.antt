@@ -2,7 +2,7 @@ use Rattle.std.proofs.Common.{ap, sym, ℕ, [], ◌∷◌}
 use Rattle.std.proofs.lemmas.Result.{err_from_is_err_and}
 use Rattle.door.specs.declared.values.Thing.{Thing}
 use Rattle.small_meaning.specs.declared.prim.Prim.{Prim}
-use Rattle.small_meaning.specs.Rows.{Next, ask, bind, sum_row, with_nothing, written_row}
+use Rattle.small_meaning.specs.Rows.{Next, ask, bind, sum_row, with_title, written_row}
 use Rattle.door.specs.declared.values.Value.TheVariants.{Str as StrValue}
 use Rattle.door.specs.declared.members.Member.TheVariants.{DocumentSetTitle}
 use Rattle.door.specs.declared.requests.Request.TheVariants.{Native}
@@ -57,7 +57,7 @@ returns-clause-own c = λ s c' h.
     let valued = c.in_ok-value.ensures.own s (bind k c') (rw c.as_slice.ensures begun) in
     let asks = c.in_ok-charge-2.ensures.own s _ _ _ c' (stands_at _ _ _ _ _ (written_charged _ c.in_ok-value.value c.in_ok-text.text c' _ _ c.in_ok-text.ensures c.argument_units.ensures) valued) in
     after_line s _ _ _ c' c.ask_set_title.result (c.ask_set_title.ensures.own s (c' Next) c'
-    (stands_at _ _ _ _ _ (ap (λ (d : Thing). ask (Native DocumentSetTitle d (StrValue c.in_ok-text.text ∷ [])) (with_nothing (c' Next) c') c' c.charge-2.new.fuel) (sym (same_document _ _ _ (c.in_ok-value.ensures.same _) c.in_ok-ask_document.ensures.met))) asks))
+    (stands_at _ _ _ _ _ (ap (λ (d : Thing). ask (Native DocumentSetTitle d (StrValue c.in_ok-text.text ∷ [])) (with_title (c' Next) c') c' c.charge-2.new.fuel) (sym (same_document _ _ _ (c.in_ok-value.ensures.same _) c.in_ok-ask_document.ensures.met))) asks))
 
 pub returns-clause-keeps : goal.returns-clause-keeps
 returns-clause-keeps c = λ g.

@@ -1,4 +1,4 @@
-use Rattle.std.proofs.Common.{ap, refl, sym, true≢false, Bool, true, false}
+use Rattle.std.proofs.Common.{ap, refl, sym, true≢false, Bool, false}
 use Rattle.std.specs.Char.{encode_utf8}
 use Rattle.dom_semantics.specs.Forest.{DEPTH_LIMIT, NODE_LIMIT}
 use Rattle.dom_semantics.specs.Listeners.{LISTENER_LIMIT}
@@ -32,9 +32,23 @@ returns c = record {
   prevented = refl;
   ended = refl;
   nothing_more = λ h. h;
+  syntax = refl;
   no_syntax = λ h. h;
-  serves = refl;
+  no_syntax_of_script = λ h. true≢false (ap (λ i. is_actor i (actor 2)) h);
+  entry_of_owner = refl;
+  served_next = refl;
+  caller_next = refl;
+  told = (refl, refl, refl);
+  told_stopped = (refl, refl, refl);
   not_stopped = λ h. true≢false h.1;
+  not_told = λ h. true≢false (sym h.1);
+  not_thrown = λ h. true≢false h.2;
+  not_for_owner = λ h. true≢false (ap (λ i. is_actor i (actor 1)) h.0);
+  both_open = (refl, refl, refl);
+  both_closed = λ h. true≢false (sym h.1);
+  owner_closed = λ h. true≢false (sym h.2);
+  asker_closed = λ h. true≢false (sym h.1);
+  by_another = λ h. true≢false (ap (λ i. is_actor i (actor 2)) h.0);
   sixty_fourth = refl;
   sixty_fifth = refl;
   of_others = refl;

@@ -22,7 +22,7 @@ fn first_wrong<'a>(
 
 #[test]
 fn pages_of_comments_and_texts(rt: HostRuntime) -> Result<(), Fail> {
-    let rows = [
+    const ROWS: &[(&str, &str)] = &[
         ("", ""),
         (" \n\t", ""),
         ("<html></html>", "<html></html>"),
@@ -39,13 +39,13 @@ fn pages_of_comments_and_texts(rt: HostRuntime) -> Result<(), Fail> {
         ("<p>a<!--c-->b</p>", "<p>a<!--c-->b</p>"),
         ("<!--\n\t --> <p> </p>\n", "<!--\n\t --><p> </p>"),
     ];
-    assert_eq!(rt; first_wrong(&rt, rt.alloc(), &rows)?, "no page");
+    assert_eq!(rt; first_wrong(&rt, rt.alloc(), ROWS)?, "no page");
     Ok(())
 }
 
 #[test]
 fn pages_of_texts(rt: HostRuntime) -> Result<(), Fail> {
-    let rows = [
+    const ROWS: &[(&str, &str)] = &[
         ("<p>a\r\nb\rc\r\r\nd\r</p>", "<p>a\nb\nc\n\nd\n</p>"),
         ("<!--a\r\nb\r-->", "<!--a\nb\n-->"),
         ("<p>1 < 2 <3 <</p>", "<p>1 &lt; 2 &lt;3 &lt;</p>"),
@@ -82,13 +82,13 @@ fn pages_of_texts(rt: HostRuntime) -> Result<(), Fail> {
             "<style>\n&amp;</stylex></style>",
         ),
     ];
-    assert_eq!(rt; first_wrong(&rt, rt.alloc(), &rows)?, "no page");
+    assert_eq!(rt; first_wrong(&rt, rt.alloc(), ROWS)?, "no page");
     Ok(())
 }
 
 #[test]
 fn pages_of_attributes(rt: HostRuntime) -> Result<(), Fail> {
-    let rows = [
+    const ROWS: &[(&str, &str)] = &[
         ("<a b></a>", "<a b=\"\"></a>"),
         ("<a b=c></a>", "<a b=\"c\"></a>"),
         ("<a b=c/></a>", "<a b=\"c/\"></a>"),
@@ -119,13 +119,13 @@ fn pages_of_attributes(rt: HostRuntime) -> Result<(), Fail> {
             "<a b=\"&quot;'\" c=\"&amp;\"></a>",
         ),
     ];
-    assert_eq!(rt; first_wrong(&rt, rt.alloc(), &rows)?, "no page");
+    assert_eq!(rt; first_wrong(&rt, rt.alloc(), ROWS)?, "no page");
     Ok(())
 }
 
 #[test]
 fn pages_of_tags(rt: HostRuntime) -> Result<(), Fail> {
-    let rows = [
+    const ROWS: &[(&str, &str)] = &[
         ("<a/></a>", "<a></a>"),
         ("<a /></a>", "<a></a>"),
         ("<a b/></a>", "<a b=\"\"></a>"),
@@ -155,13 +155,13 @@ fn pages_of_tags(rt: HostRuntime) -> Result<(), Fail> {
             "<html><head><title>T</title></head><body><p id=\"p\"></p><div id=\"d\"></div></body></html>",
         ),
     ];
-    assert_eq!(rt; first_wrong(&rt, rt.alloc(), &rows)?, "no page");
+    assert_eq!(rt; first_wrong(&rt, rt.alloc(), ROWS)?, "no page");
     Ok(())
 }
 
 #[test]
 fn pages_of_scripts(rt: HostRuntime) -> Result<(), Fail> {
-    let rows = [
+    const ROWS: &[(&str, &str)] = &[
         ("<script></script>", "<script></script>{}<script></script>"),
         (
             "<p><script>a\r\n</scriptx></b></SCRIPT\n>b</p>",
@@ -208,13 +208,13 @@ fn pages_of_scripts(rt: HostRuntime) -> Result<(), Fail> {
             "<p><script>1</script></p>{1}Unclosed 21",
         ),
     ];
-    assert_eq!(rt; first_wrong(&rt, rt.alloc(), &rows)?, "no page");
+    assert_eq!(rt; first_wrong(&rt, rt.alloc(), ROWS)?, "no page");
     Ok(())
 }
 
 #[test]
 fn refused_pages_at_the_top(rt: HostRuntime) -> Result<(), Fail> {
-    let rows = [
+    const ROWS: &[(&str, &str)] = &[
         ("x", "BadTag 0"),
         ("\u{feff}x", "BadTag 3"),
         ("&#32;", "BadTag 0"),
@@ -231,13 +231,13 @@ fn refused_pages_at_the_top(rt: HostRuntime) -> Result<(), Fail> {
         ("<a></a><br>", "BadTag 7"),
         ("<br><br>", "BadTag 4"),
     ];
-    assert_eq!(rt; first_wrong(&rt, rt.alloc(), &rows)?, "no page");
+    assert_eq!(rt; first_wrong(&rt, rt.alloc(), ROWS)?, "no page");
     Ok(())
 }
 
 #[test]
 fn refused_pages_of_comments_and_doctypes(rt: HostRuntime) -> Result<(), Fail> {
-    let rows = [
+    const ROWS: &[(&str, &str)] = &[
         ("<!--", "Unclosed 0"),
         ("<!--a--", "Unclosed 0"),
         ("<!--a-- ", "Unclosed 0"),
@@ -254,13 +254,13 @@ fn refused_pages_of_comments_and_doctypes(rt: HostRuntime) -> Result<(), Fail> {
         ("<a></\u{e9}></a>", "BadTag 3"),
         ("<a><!\u{1f600}></a>", "BadTag 3"),
     ];
-    assert_eq!(rt; first_wrong(&rt, rt.alloc(), &rows)?, "no page");
+    assert_eq!(rt; first_wrong(&rt, rt.alloc(), ROWS)?, "no page");
     Ok(())
 }
 
 #[test]
 fn refused_pages_of_end_tags(rt: HostRuntime) -> Result<(), Fail> {
-    let rows = [
+    const ROWS: &[(&str, &str)] = &[
         ("</a>", "WrongEnd 0"),
         ("<a></a></a>", "WrongEnd 7"),
         ("<a><b></a></b>", "WrongEnd 6"),
@@ -275,13 +275,13 @@ fn refused_pages_of_end_tags(rt: HostRuntime) -> Result<(), Fail> {
         ("<a></a", "Unclosed 3"),
         ("<a></a ", "Unclosed 3"),
     ];
-    assert_eq!(rt; first_wrong(&rt, rt.alloc(), &rows)?, "no page");
+    assert_eq!(rt; first_wrong(&rt, rt.alloc(), ROWS)?, "no page");
     Ok(())
 }
 
 #[test]
 fn refused_pages_of_start_tags(rt: HostRuntime) -> Result<(), Fail> {
-    let rows = [
+    const ROWS: &[(&str, &str)] = &[
         ("<a", "Unclosed 0"),
         ("<a ", "Unclosed 0"),
         ("<a b", "Unclosed 0"),
@@ -297,13 +297,13 @@ fn refused_pages_of_start_tags(rt: HostRuntime) -> Result<(), Fail> {
         ("<html><bo", "Unclosed 6"),
         ("<p>\u{e9}<a b='c\"", "Unclosed 5"),
     ];
-    assert_eq!(rt; first_wrong(&rt, rt.alloc(), &rows)?, "no page");
+    assert_eq!(rt; first_wrong(&rt, rt.alloc(), ROWS)?, "no page");
     Ok(())
 }
 
 #[test]
 fn refused_pages_of_attributes(rt: HostRuntime) -> Result<(), Fail> {
-    let rows = [
+    const ROWS: &[(&str, &str)] = &[
         ("<a_>", "BadTag 2"),
         ("<a\u{e9}>", "BadTag 2"),
         ("<a b=>", "BadTag 5"),
@@ -318,13 +318,13 @@ fn refused_pages_of_attributes(rt: HostRuntime) -> Result<(), Fail> {
         ("<a \u{1f600}='\u{e9}'b>", "BadTag 12"),
         ("<a b = >", "BadTag 7"),
     ];
-    assert_eq!(rt; first_wrong(&rt, rt.alloc(), &rows)?, "no page");
+    assert_eq!(rt; first_wrong(&rt, rt.alloc(), ROWS)?, "no page");
     Ok(())
 }
 
 #[test]
 fn refused_pages_of_elements(rt: HostRuntime) -> Result<(), Fail> {
-    let rows = [
+    const ROWS: &[(&str, &str)] = &[
         ("<html><p>", "Unclosed 6"),
         ("<p>a", "Unclosed 0"),
         ("<p>&am", "Unclosed 0"),
@@ -341,13 +341,13 @@ fn refused_pages_of_elements(rt: HostRuntime) -> Result<(), Fail> {
         ("<p><script>a</script ", "Unclosed 12"),
         ("<p><script>\u{e9}</script b", "BadTag 22"),
     ];
-    assert_eq!(rt; first_wrong(&rt, rt.alloc(), &rows)?, "no page");
+    assert_eq!(rt; first_wrong(&rt, rt.alloc(), ROWS)?, "no page");
     Ok(())
 }
 
 #[test]
 fn constructs_at_the_end(rt: HostRuntime) -> Result<(), Fail> {
-    let rows = [
+    const ROWS: &[(&str, &str)] = &[
         ("\u{feff}", ""),
         ("\r\n\r", ""),
         ("<!doctype a>", ""),
@@ -362,13 +362,13 @@ fn constructs_at_the_end(rt: HostRuntime) -> Result<(), Fail> {
         ),
         ("<a></a>\n", "<a></a>"),
     ];
-    assert_eq!(rt; first_wrong(&rt, rt.alloc(), &rows)?, "no page");
+    assert_eq!(rt; first_wrong(&rt, rt.alloc(), ROWS)?, "no page");
     Ok(())
 }
 
 #[test]
 fn tags_that_are_cut_off(rt: HostRuntime) -> Result<(), Fail> {
-    let rows = [
+    const ROWS: &[(&str, &str)] = &[
         ("<br", "Unclosed 0"),
         ("<br/", "Unclosed 0"),
         ("<a b/", "Unclosed 0"),
@@ -383,13 +383,13 @@ fn tags_that_are_cut_off(rt: HostRuntime) -> Result<(), Fail> {
         ("<p></p", "Unclosed 3"),
         ("<p></p\u{c}", "Unclosed 3"),
     ];
-    assert_eq!(rt; first_wrong(&rt, rt.alloc(), &rows)?, "no page");
+    assert_eq!(rt; first_wrong(&rt, rt.alloc(), ROWS)?, "no page");
     Ok(())
 }
 
 #[test]
 fn contents_that_are_cut_off(rt: HostRuntime) -> Result<(), Fail> {
-    let rows = [
+    const ROWS: &[(&str, &str)] = &[
         ("<p><", "Unclosed 0"),
         ("<p>&lt;", "Unclosed 0"),
         ("<p><!", "BadTag 3"),
@@ -409,6 +409,6 @@ fn contents_that_are_cut_off(rt: HostRuntime) -> Result<(), Fail> {
             "<p><script>1</script></p>{1}Unclosed 0",
         ),
     ];
-    assert_eq!(rt; first_wrong(&rt, rt.alloc(), &rows)?, "no page");
+    assert_eq!(rt; first_wrong(&rt, rt.alloc(), ROWS)?, "no page");
     Ok(())
 }

@@ -1,9 +1,9 @@
 //! For the tests: the document that a page's requests build.
 
-use crate::{PageFault, PageKind, PageReader, Piece, print};
 use base_text::{NoMemory, OrMemory, Text};
 use dom_tree::{NodeForm, NodeId, Tree};
 use door::{Actor, Member, Request, Value};
+use page_text::{PageFault, PageKind, PageReader, Piece, print};
 use std::alloc::{AllocError, Global};
 use std::process::Abort;
 use std::test::Fail;

@@ -42,9 +42,12 @@ fn first_wrong(
 fn limits_of_depth(rt: HostRuntime) -> Result<(), Fail> {
     let ends = repeated(rt.alloc(), "", "</a>", 256, "")?;
     let inner = repeated(rt.alloc(), "<br>", "</a>", 255, "")?;
-    let rows = [
+    let whole = [
         ("", "<a>", 256, ends.as_str(), ""),
         ("", "<a>", 255, inner.as_str(), ""),
+    ];
+    assert_eq!(rt; first_wrong(&rt, rt.alloc(), &whole)?, None);
+    const ROWS: &[(&str, &str, u32, &str, &str)] = &[
         ("", "<a>", 257, "", "TooDeep 768"),
         ("", "<a>", 256, "<!--b-->", "TooDeep 768"),
         ("", "<a>", 256, "b", "TooDeep 768"),
@@ -56,13 +59,13 @@ fn limits_of_depth(rt: HostRuntime) -> Result<(), Fail> {
         ("<!--\u{e9}-->", "<a>", 257, "", "TooDeep 777"),
         ("<!--\u{1f600}-->", "<a>", 256, "\u{e9}", "TooDeep 779"),
     ];
-    assert_eq!(rt; first_wrong(&rt, rt.alloc(), &rows)?, None);
+    assert_eq!(rt; first_wrong(&rt, rt.alloc(), ROWS)?, None);
     Ok(())
 }
 
 #[test]
 fn limits_of_texts(rt: HostRuntime) -> Result<(), Fail> {
-    let rows = [
+    const ROWS: &[(&str, &str, u32, &str, &str)] = &[
         ("<p>", "a", 262_144, "</p>", ""),
         ("<p>", "a", 262_145, "</p>", "TooLong 3"),
         ("<p>", "&lt;", 262_144, "</p>", ""),
@@ -80,15 +83,16 @@ fn limits_of_texts(rt: HostRuntime) -> Result<(), Fail> {
         ("<!--", "a", 262_144, "-->", ""),
         ("<!--", "a", 262_145, "-->", "TooLong 0"),
     ];
-    assert_eq!(rt; first_wrong(&rt, rt.alloc(), &rows)?, None);
+    assert_eq!(rt; first_wrong(&rt, rt.alloc(), ROWS)?, None);
     Ok(())
 }
 
 #[test]
 fn limits_of_names_and_values(rt: HostRuntime) -> Result<(), Fail> {
     let end = repeated(rt.alloc(), "></", "a", 262_144, ">")?;
-    let rows = [
-        ("<", "a", 262_144, end.as_str(), ""),
+    let whole = [("<", "a", 262_144, end.as_str(), "")];
+    assert_eq!(rt; first_wrong(&rt, rt.alloc(), &whole)?, None);
+    const ROWS: &[(&str, &str, u32, &str, &str)] = &[
         ("<", "a", 262_144, "/>", "Unclosed 0"),
         ("<", "a", 262_145, "", "TooLong 1"),
         ("<p ", "a", 262_144, "=\"\"></p>", ""),
@@ -100,13 +104,13 @@ fn limits_of_names_and_values(rt: HostRuntime) -> Result<(), Fail> {
         ("<p a=", "b", 262_145, "></p>", "TooLong 5"),
         ("<p \u{e9}=", "b", 262_145, "></p>", "TooLong 6"),
     ];
-    assert_eq!(rt; first_wrong(&rt, rt.alloc(), &rows)?, None);
+    assert_eq!(rt; first_wrong(&rt, rt.alloc(), ROWS)?, None);
     Ok(())
 }
 
 #[test]
 fn limits_of_nodes_and_pages(rt: HostRuntime) -> Result<(), Fail> {
-    let rows = [
+    const ROWS: &[(&str, u32, &str, &str)] = &[
         ("<!---->", 99_999, "", ""),
         ("<!---->", 100_000, "", "TooLong 699993"),
         ("<!---->", 99_998, "<p></p>", ""),
@@ -115,10 +119,10 @@ fn limits_of_nodes_and_pages(rt: HostRuntime) -> Result<(), Fail> {
         ("                ", 262_144, "", ""),
         ("                ", 262_144, "<", "TooLong 4194304"),
     ];
-    for (part, count, after, want) in rows {
-        let page = repeated(rt.alloc(), "", part, count, after)?;
+    for (part, count, after, want) in ROWS {
+        let page = repeated(rt.alloc(), "", part, *count, after)?;
         let got = first_fault(rt.alloc(), page.as_bytes())?;
-        assert_eq!(rt; got.as_str(), want, "{count} of {part}");
+        assert_eq!(rt; got.as_str(), *want, "{count} of {part}");
     }
     Ok(())
 }
