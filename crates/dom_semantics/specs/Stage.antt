@@ -1,13 +1,13 @@
 -- The stage: all of document, events, listeners, timers and store that scripts can ask about; this project's own in form.
 use Rattle.std.specs.Prelude.{◌≡◌, ◌-◌, ◌||◌, ◌&&◌, ℕ, Bool, true, not, List, [], length, nat_eq, nat_le, nat_lt, count_by, slice_index_or, Option, Some, None}
 use Rattle.std.specs.List.{list_all}
-use Rattle.base_text.specs.Scalars.{utf8_len}
 use Rattle.door.specs.declared.values.Actor.{Actor}
 use Rattle.door.specs.declared.grants.GrantSet.{GrantSet}
 use Rattle.door.specs.declared.limits.TheConstants as limits
 use Rattle.door.specs.declared.values.Kind.{Kind}
 use Rattle.door.specs.declared.values.Kind.TheVariants.{Window, Event as EventKind}
 use Rattle.door.specs.declared.values.Thing.{Thing}
+use Rattle.dom_semantics.specs.Bounds.{is_short}
 use Rattle.dom_semantics.specs.Forest.{Forest, new_forest, form_at}
 use Rattle.dom_semantics.specs.declared.kept.Owner.{Owner}
 use Rattle.dom_semantics.specs.declared.readiness.Readiness.{Readiness}
@@ -59,11 +59,11 @@ is_grant_set g = not g.no_grant || not (g.unsafe_window || g.get_value || g.set_
 abbrev pub is_clock_before : ℕ × ℕ → ℕ × ℕ → Bool
 is_clock_before a b = nat_le a.0 b.0 && nat_le a.1 b.1
 
--- What a run is given is right where selectors are read by the grammar, address, names and number of scripts are within their limits, each
--- script has its grants, `none` by itself, the loaded store is in order, which loading establishes, and no clock is set back.
+-- What a run is given is right where selectors are read by the grammar, address and names are no longer than a text may be, the number of
+-- scripts is within its limit, each script has its grants, `none` by itself, the loaded store is in order, which loading establishes, and no clock is set back.
 pub record IsSetting (given : Setting) : Type 0 where
   pub reading : IsReading given.origin.read_selector
-  pub address : nat_le (utf8_len given.origin.address) limits.ADDRESS_LIMIT ≡ true
+  pub address : is_short given.origin.address ≡ true
   pub scripts : nat_le (length given.origin.owners) limits.USERSCRIPT_LIMIT ≡ true
   pub owners : list_all is_short_owner given.origin.owners ≡ true
   pub grants : length given.origin.grants ≡ length given.origin.owners

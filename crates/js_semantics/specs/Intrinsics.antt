@@ -3,7 +3,7 @@
 -- outside (ECMAScript, 19 to 23; Web IDL, 3.7; the places are this project's own). What isn't built yet takes no place.
 use Rattle.std.specs.Prelude.{ℕ, suc, ◌-◌, ◌+◌, ◌==◌, ◌&&◌, Bool, true, false, List, [], ◌∷◌, ◌++◌, Option, Some, None, length, replicate, codes, if◌then◌else◌}
 use Rattle.door.specs.declared.zones.Zone.{Zone}
-use Rattle.door.specs.declared.zones.Zone.TheVariants.{Page}
+use Rattle.door.specs.declared.zones.Zone.TheVariants.{Page, PlainScript}
 use Rattle.door.specs.declared.grants.GrantSet.{GrantSet}
 use Rattle.door.specs.declared.values.Kind.TheVariants.{Window}
 use Rattle.door.specs.declared.members.Member.{Member}
@@ -13,7 +13,7 @@ use Rattle.js_semantics.specs.Builtin.{Builtin}
 use Rattle.js_semantics.specs.Builtin as b
 use Rattle.js_semantics.specs.Prelude as prelude
 use Rattle.js_semantics.specs.Places.{OBJECT_PROTOTYPE, FUNCTION_PROTOTYPE, ARRAY_PROTOTYPE, ERROR_PROTOTYPE, EVENT_TARGET_PROTOTYPE, NODE_PROTOTYPE, DOCUMENT_PROTOTYPE, ELEMENT_PROTOTYPE, WINDOW_PROTOTYPE, EVENT_PROTOTYPE}
-use Rattle.js_semantics.specs.Machine.{Machine, Cell, Form, Plain, Closure, Native, Reference, Own, Value, Refers, Property, Datum, Accessor, Slot, undefined, text, CELLS, GLOBAL_PLACE, the_window}
+use Rattle.js_semantics.specs.Machine.{Machine, Cell, Form, Plain, Closure, Native, Reference, Own, Value, Refers, Property, Datum, Accessor, Slot, undefined, text, CELLS, GLOBAL_PLACE, the_window, the_page_window}
 use Rattle.js_semantics.specs.Properties.{property_in, defined_in}
 
 -- where a cell is named: by a key of another cell, as a getter or a setter there, or by a key where it is granted
@@ -351,10 +351,15 @@ pub record Setup : Type 0 where
 abbrev pub global_slots : List Intrinsic → List Slot
 global_slots all = slots_from GLOBAL_PLACE 0 all (record { key = codes "undefined"; property = Datum undefined false false } ∷ [])
 
--- the global object of a userscript is a cell above the window, and the page's is the window itself
+-- above the global object of a userscript stands the window, as the page has it where the script runs among the page's own
+abbrev pub above_global : Zone → Reference
+above_global PlainScript = the_page_window
+above_global zone = the_window
+
+-- the global object of a userscript is a cell, and the page's is the window itself
 abbrev pub global_cell : Zone → List Slot → Option Cell
 global_cell Page slots = None
-global_cell zone slots = Some (record { form = Plain; prototype = Some the_window; slots = slots })
+global_cell zone slots = Some (record { form = Plain; prototype = Some (above_global zone); slots = slots })
 
 abbrev pub window_slots : Zone → List Slot → List Slot
 window_slots Page slots = slots

@@ -117,6 +117,10 @@ GLOBAL_PLACE = 299
 abbrev pub the_window : Reference
 the_window = Thing 0
 
+-- the window as the page itself has it (MDN, waiving)
+abbrev pub the_page_window : Reference
+the_page_window = WaivedThing 0
+
 -- the page's global object is its window, and a userscript's is a cell of its own (Greasemonkey manual, sandbox)
 abbrev pub global_in : Zone → Reference
 global_in Page = the_window

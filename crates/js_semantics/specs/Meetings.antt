@@ -49,8 +49,8 @@ met_row thing m f c = met_again thing (thing_at m thing.number) m f c
 
 -- ---- objects
 
--- The zone of another: the page's, or that of a userscript with Xrays. A script that runs among the page's own can show nothing to an actor
--- that is closed, so it isn't told apart.
+-- The zone of another: the page's, or that of a userscript with Xrays. A script that runs among the page's own isn't told apart, since to an
+-- actor that is closed the objects of either kind of userscript are denied.
 abbrev zone_of_owner : Actor → Zone
 zone_of_owner owner = if is_actor owner PAGE then Page else XrayScript
 

@@ -1,5 +1,6 @@
 -- What an Xray shows of an object, and what actors see of marks, computed by the definitions alone.
-use Rattle.std.specs.Prelude.{◌≡◌, ℕ, true, false, List, [], ◌∷◌, ◌++◌, codes, Some, None, pos}
+use Rattle.std.specs.Prelude.{◌≡◌, ℕ, true, false, List, [], ◌∷◌, ◌++◌, codes, map, drop, Some, None, pos}
+use Rattle.std.specs.Option.{option_map_or}
 use Rattle.door.specs.declared.values.Actor.{Actor}
 use Rattle.door.specs.declared.values.Kind.TheVariants.{Element, Event}
 use Rattle.door.specs.declared.values.Shape.TheVariants as shape
@@ -18,10 +19,10 @@ use Rattle.door.specs.declared.marks.Mark.TheVariants as mark
 use Rattle.dom_semantics.specs.Forest.{the_host}
 use Rattle.dom_semantics.specs.Grants.{no_grants}
 use Rattle.dom_semantics.specs.Things.{thing_of, the_window}
-use Rattle.js_semantics.specs.Machine.{Machine, Cell, Plain, Array, Own, Slot, Datum, Accessor, Value, Refers, number}
+use Rattle.js_semantics.specs.Machine.{Machine, Cell, Plain, Array, Own, Slot, Datum, Accessor, Value, Refers, cell_at, number}
 use Rattle.js_semantics.specs.Intrinsics.{Setup, fresh}
 use Rattle.js_semantics.specs.Solo.{Dispatches, Leaves}
-use Rattle.solo_model.specs.Shown.{peeked_answer, peeked_keys_answer}
+use Rattle.solo_model.specs.Shown.{object_keys, array_keys, peeked_answer, peeked_keys_answer}
 use Rattle.solo_model.specs.ActorView.{Entered, Asked, Said, Returned, view_of}
 use Rattle.solo_model.specs.ViewDeeds.{Requests, Says, Answers, Backs, Enters, deeds_of, shows_of}
 
@@ -47,6 +48,10 @@ list = record { form = Array (number (pos 1) ∷ number (pos 2) ∷ []); prototy
 
 abbrev machine : Machine
 machine = record (fresh page_setup) { cells = (fresh page_setup).cells ++ (Some object ∷ (Some list ∷ [])) }
+
+-- the keys of a built-in object, as a machine begins with it
+abbrev keys_of_builtin : ℕ → List (List ℕ)
+keys_of_builtin place = option_map_or (λ (cell : Cell). map (λ (s : Slot). s.key) cell.slots) (cell_at (fresh page_setup) place) []
 
 -- ---- views
 
@@ -121,6 +126,9 @@ pub record ShownFacts : Type 0 where
   pub length : peeked_answer machine 301 (codes "length") ≡ answer.Value (door.Number (pos 2))
   pub array_hidden : peeked_answer machine 301 (codes "push") ≡ answer.Absent
   pub array_keys : peeked_keys_answer machine 301 ≡ answer.Keys (codes "0" ∷ codes "1" ∷ [])
+  -- the hidden keys are those that the prototypes of objects and arrays begin with
+  pub of_objects : keys_of_builtin 1 ≡ object_keys
+  pub of_arrays : object_keys ++ drop 1 (keys_of_builtin 14) ≡ array_keys
   -- a function is opaque
   pub opaque : peeked_answer machine 0 (codes "prototype") ≡ answer.Absent
   -- the script sees things by the order of meeting, its own function by its place alone, and its refused dispatch as a dispatch that came back
