@@ -22,7 +22,7 @@ use Rattle.dom_semantics.specs.Things.{thing_of, the_window}
 use Rattle.js_semantics.specs.Machine.{Machine, Cell, Plain, Array, Own, Slot, Datum, Accessor, Value, Refers, cell_at, number}
 use Rattle.js_semantics.specs.Intrinsics.{Setup, fresh}
 use Rattle.js_semantics.specs.Solo.{Dispatches, Leaves}
-use Rattle.solo_model.specs.Shown.{object_keys, array_keys, peeked_answer, peeked_keys_answer}
+use Rattle.solo_model.specs.Shown.{object_keys as hidden_in_objects, array_keys as hidden_in_arrays, peeked_answer, peeked_keys_answer}
 use Rattle.solo_model.specs.ActorView.{Entered, Asked, Said, Returned, view_of}
 use Rattle.solo_model.specs.ViewDeeds.{Requests, Says, Answers, Backs, Enters, deeds_of, shows_of}
 
@@ -127,8 +127,8 @@ pub record ShownFacts : Type 0 where
   pub array_hidden : peeked_answer machine 301 (codes "push") ≡ answer.Absent
   pub array_keys : peeked_keys_answer machine 301 ≡ answer.Keys (codes "0" ∷ codes "1" ∷ [])
   -- the hidden keys are those that the prototypes of objects and arrays begin with
-  pub of_objects : keys_of_builtin 1 ≡ object_keys
-  pub of_arrays : object_keys ++ drop 1 (keys_of_builtin 14) ≡ array_keys
+  pub of_objects : keys_of_builtin 1 ≡ hidden_in_objects
+  pub of_arrays : hidden_in_objects ++ drop 1 (keys_of_builtin 14) ≡ hidden_in_arrays
   -- a function is opaque
   pub opaque : peeked_answer machine 0 (codes "prototype") ≡ answer.Absent
   -- the script sees things by the order of meeting, its own function by its place alone, and its refused dispatch as a dispatch that came back
