@@ -1,5 +1,5 @@
 -- The true reply to each request for a member, and what other requests may be answered; this project's own in form.
-use Rattle.std.specs.Prelude.{◌≡◌, ◌&&◌, Bool, true, List, if◌then◌else◌, IsSome, Option, Some, None}
+use Rattle.std.specs.Prelude.{◌≡◌, ◌&&◌, Bool, true, List, if◌then◌else◌, IsSome, Option, Some, None, is_some}
 use Rattle.std.specs.List.{list_all}
 use Rattle.door.specs.declared.values.Actor.{Actor}
 use Rattle.door.specs.declared.values.Thing.{Thing}
@@ -33,10 +33,17 @@ row_or_none (Some row) = row
 row_or_none None = no_row
 
 -- the row of a member, from the file of its interface
+abbrev pub row_among : Member → Option Row
+row_among member =
+    or_row (window_rows member) (or_row (target_rows member) (or_row (node_rows member) (or_row (element_rows member) (or_row (document_rows member)
+    (or_row (event_rows member) (gm_rows member))))))
+
+-- none is left out
+abbrev pub EachMemberHasARow : Type 0
+EachMemberHasARow = (member : Member) → is_some (row_among member) ≡ true
+
 abbrev pub row_of : Member → Row
-row_of member =
-    row_or_none (or_row (window_rows member) (or_row (target_rows member) (or_row (node_rows member) (or_row (element_rows member)
-    (or_row (document_rows member) (or_row (event_rows member) (gm_rows member)))))))
+row_of member = row_or_none (row_among member)
 
 -- the things among the arguments are on the stage
 abbrev pub has_value_thing : Stage → Value → Bool

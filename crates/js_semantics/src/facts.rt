@@ -12,6 +12,7 @@ ghost use Rattle.js_semantics.specs.StatementFacts.{Statements};
 ghost use Rattle.js_semantics.specs.StopFacts.{Stops};
 ghost use Rattle.js_semantics.specs.TextFacts.{TextLimits};
 ghost use Rattle.js_semantics.specs.XrayFacts.{Looks};
+ghost use Rattle.js_semantics.specs.MemberRows.{EachMemberHasARow};
 
 /// Sums, texts, remainders, names and throws: what each small program logs, how it ends and the units that it uses.
 pub fn operators_are_computed()
@@ -73,4 +74,9 @@ pub fn text_limits_are_computed()
 /// What entries of scripts, timers and listeners do one after the other: the machine that one leaves is the next one's.
 pub fn entries_are_computed()
     ensures { Entries }
+{}
+
+/// Each member has a row by which a script asks for it.
+pub fn each_member_has_a_row()
+    ensures { EachMemberHasARow }
 {}
