@@ -4,6 +4,7 @@ pub mod Fitting
 pub mod KindFacts
 pub mod Letters
 pub mod Placed
+pub mod Readings
 pub mod SingleTests
 pub mod Walks
 pub mod Ways

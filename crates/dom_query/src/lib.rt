@@ -5,6 +5,7 @@ mod built;
 mod fault;
 mod fits;
 mod kind;
+mod laws;
 mod parse;
 mod queries;
 mod selector;
@@ -12,6 +13,7 @@ mod state;
 mod walk;
 
 pub use fault::SelectorFault;
+pub use laws::selectors_have_a_reading;
 pub use parse::parse_selector;
 pub use queries::{by_id, by_tag, select};
 pub use selector::Selector;

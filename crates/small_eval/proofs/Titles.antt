@@ -105,7 +105,7 @@ on_some P Q (Some y) x e h = h
 -- ---- why it is refused
 
 -- there would be too many nodes, or one too deep
-abbrev IsRefusal : Option ErrorKind → Type 0
+abbrev pub IsRefusal : Option ErrorKind → Type 0
 IsRefusal None = Unit {0}
 IsRefusal (Some Limit) = Unit {0}
 IsRefusal (Some TooDeep) = Unit {0}
@@ -128,7 +128,7 @@ refuses_append f maker n text =
     refuses_if (not (nat_le (made_by f maker + new_nodes text) NODE_LIMIT)) (Some Limit) deep tt
     (refuses_if (not (nat_le (depth_of f n + new_nodes text) DEPTH_LIMIT)) (Some TooDeep) None tt tt)
 
-refuses_title : (f : Forest) (maker : Actor) (text : List ℕ) → IsRefusal (title_refusal f maker text)
+pub refuses_title : (f : Forest) (maker : Actor) (text : List ℕ) → IsRefusal (title_refusal f maker text)
 refuses_title f maker text = by (title_element f) (head_element f)
   where
     by : (t h : Option ℕ) → IsRefusal (option_map_or (λ n. text_refusal f maker n text) t (option_map_or (λ n. append_refusal f maker n text) h None))

@@ -12,7 +12,7 @@ use Rattle.door.specs.declared.values.Value.TheVariants.{Thing as ThingValue, St
 use Rattle.door.specs.declared.members.Member.{Member}
 use Rattle.door.specs.declared.members.Member.TheVariants.{WindowDocument, DocumentTitle, DocumentSetTitle, GmLog, ConsoleLog}
 use Rattle.door.specs.declared.requests.ErrorKind.{ErrorKind}
-use Rattle.door.specs.declared.requests.ErrorKind.TheVariants.{TooLong}
+use Rattle.door.specs.declared.requests.ErrorKind.TheVariants.{Limit, TooDeep, TooLong}
 use Rattle.door.specs.declared.requests.Request.{Request}
 use Rattle.door.specs.declared.requests.Request.TheVariants.{Native}
 use Rattle.door.specs.declared.requests.Answer.{Answer}
@@ -22,6 +22,7 @@ use Rattle.door.specs.declared.marks.Mark.{Mark}
 use Rattle.door.specs.declared.marks.Mark.TheVariants.{Turn, Build, Enter, Ask, Dispatch, Back, Leave, Serve, Served}
 use Rattle.door.specs.declared.zones.Zone.{Zone}
 use Rattle.dom_semantics.specs.Titles.{title_of, title_refusal}
+use Rattle.small_eval.proofs.Titles.{IsRefusal, refuses_title}
 use Rattle.small_forms.specs.declared.script.Line.{Line}
 use Rattle.small_meaning.specs.Rows.{Reads}
 use Rattle.small_meaning.proofs.Shown.{AllEnter, AreMet}
@@ -96,13 +97,15 @@ text_replied : (i : Actor) (met : Met) (thing : Thing) (text : List ℕ) → Are
 text_replied i met thing text known = by (nat_lt TEXT_LIMIT (utf8_len text)) refl
   where
     by : (b : Bool) → nat_lt TEXT_LIMIT (utf8_len text) ≡ b → Replied i met (Native DocumentTitle thing []) (if b then Throw TooLong else ValueAnswer (Str text))
-    by true e = (inr (TooLong, refl), known)
+    by true e = (inr refl, known)
     by false e = (inl (text, below (utf8_len text) e, refl), known)
 
-refused_replied : (i : Actor) (met : Met) (thing : Thing) (arguments : List Value) (reason : Option ErrorKind) → AreMet met.things
+refused_replied : (i : Actor) (met : Met) (thing : Thing) (arguments : List Value) (reason : Option ErrorKind) → AreMet met.things → IsRefusal reason
     → Replied i met (Native DocumentSetTitle thing arguments) (refused_or reason (ValueAnswer Undefined))
-refused_replied i met thing arguments None known = (inl refl, known)
-refused_replied i met thing arguments (Some reason) known = (inr (reason, refl), known)
+refused_replied i met thing arguments None known h = (inl refl, known)
+refused_replied i met thing arguments (Some Limit) known h = (inr (inl refl), known)
+refused_replied i met thing arguments (Some TooDeep) known h = (inr (inr refl), known)
+refused_replied i met thing arguments (Some reason) known h = absurd h
 
 replied : (s : Stage) (j i : Actor) (met : Met) (member : Member) (thing : Thing) (arguments : List Value) (answer : Answer) → AreMet met.things → answer_of s j member thing arguments ≡ Some answer
     → Replied i met (named_request i met (Native member thing arguments)) answer
@@ -116,13 +119,13 @@ replied s j i met DocumentTitle thing [] answer known e =
 replied s j i met DocumentSetTitle thing (Str text ∷ []) answer known e =
     let P : Answer → Type 0 = λ a. Replied i met (Native DocumentSetTitle (named met thing) (Str text ∷ [])) a in
     subst P (sym (only_told the_document thing (refused_or (title_refusal s.nodes j text) (ValueAnswer Undefined)) answer e).1)
-    (refused_replied i met (named met thing) (Str text ∷ []) (title_refusal s.nodes j text) known)
+    (refused_replied i met (named met thing) (Str text ∷ []) (title_refusal s.nodes j text) known (refuses_title s.nodes j text))
 replied s j i met GmLog thing (Str text ∷ []) answer known e =
     let P : Answer → Type 0 = λ a. Replied i met (Native GmLog (named met thing) (Str text ∷ [])) a in
-    subst P (sym (only_told the_window thing (ValueAnswer Undefined) answer e).1) (inl refl, known)
+    subst P (sym (only_told the_window thing (ValueAnswer Undefined) answer e).1) (refl, known)
 replied s j i met ConsoleLog thing (Str text ∷ []) answer known e =
     let P : Answer → Type 0 = λ a. Replied i met (Native ConsoleLog (named met thing) (Str text ∷ [])) a in
-    subst P (sym (only_told the_window thing (ValueAnswer Undefined) answer e).1) (inl refl, known)
+    subst P (sym (only_told the_window thing (ValueAnswer Undefined) answer e).1) (refl, known)
 replied s j i met member thing arguments answer known e = absurd cc
 
 -- ---- who acts

@@ -11,7 +11,7 @@ use Rattle.door.specs.declared.values.Thing.{Thing}
 use Rattle.door.specs.declared.values.Value.TheVariants.{Thing as ThingValue, Str as StrValue, Undefined}
 use Rattle.door.specs.declared.members.Member.TheVariants.{WindowDocument, DocumentTitle, DocumentSetTitle, GmLog, ConsoleLog}
 use Rattle.door.specs.declared.requests.ErrorKind.{ErrorKind}
-use Rattle.door.specs.declared.requests.ErrorKind.TheVariants.{TooLong}
+use Rattle.door.specs.declared.requests.ErrorKind.TheVariants.{Limit, TooDeep, TooLong}
 use Rattle.door.specs.declared.requests.Request.{Request}
 use Rattle.door.specs.declared.requests.Request.TheVariants.{Native}
 use Rattle.door.specs.declared.requests.Answer.{Answer}
@@ -28,7 +28,7 @@ use Rattle.small_forms.specs.declared.script.Line.TheVariants.{Log, SetTitle}
 use Rattle.js_semantics.specs.Solo.{Act, Asks, Emits, Leaves, Program, Stuck}
 use Rattle.small_meaning.specs.declared.prim.Prim.{Prim}
 use Rattle.small_meaning.specs.declared.prim.Prim.TheVariants.{Number as NumberPrim, Str as StrPrim}
-use Rattle.small_meaning.specs.Rows.{Addition, Bare, Cont, Gives, Halts, Lone, Next, Plus, Throws, added, addition_row, argument_units, ask, bind, call_units, charge, document_row, follow, joined_row, leave, line_row, lines_row, log_member, logged_row, part_row, plus_row, sum_row, text_of, text_units, with_document, with_nothing, with_text, written_row}
+use Rattle.small_meaning.specs.Rows.{Addition, Bare, Cont, Gives, Halts, Lone, Next, Plus, Throws, added, addition_row, argument_units, ask, bind, call_units, charge, document_row, follow, joined_row, leave, line_row, lines_row, log_member, logged_row, part_row, plus_row, sum_row, text_of, text_units, with_document, with_nothing, with_text, with_title, written_row}
 use Rattle.small_meaning.specs.Shows.{IsText}
 use Rattle.small_meaning.proofs.Texts.{AreSound, AreSoundLines, IsSound, IsSoundSum, number_text}
 
@@ -43,19 +43,20 @@ IsTame zone (Native GmLog thing (StrValue text ∷ [])) = IsText text × (zone �
 IsTame zone (Native ConsoleLog thing (StrValue text ∷ [])) = IsText text
 IsTame zone request = ⊥
 
--- a text, or a refusal
+-- a text, unless it would be too long
 abbrev pub IsTextReply : Answer → Type 0
-IsTextReply answer = ((text : List ℕ) × IsText text × (answer ≡ ValueAnswer (StrValue text))) ⊎ ((reason : ErrorKind) × (answer ≡ ThrowAnswer reason))
+IsTextReply answer = ((text : List ℕ) × IsText text × (answer ≡ ValueAnswer (StrValue text))) ⊎ (answer ≡ ThrowAnswer TooLong)
 
--- nothing, or a refusal
-abbrev pub IsEmptyReply : Answer → Type 0
-IsEmptyReply answer = (answer ≡ ValueAnswer Undefined) ⊎ ((reason : ErrorKind) × (answer ≡ ThrowAnswer reason))
+-- nothing, unless there would be too many nodes, or one too deep
+abbrev pub IsTitleReply : Answer → Type 0
+IsTitleReply answer = (answer ≡ ValueAnswer Undefined) ⊎ (answer ≡ ThrowAnswer Limit) ⊎ (answer ≡ ThrowAnswer TooDeep)
 
 -- a true answer as its asker sees it
 abbrev pub IsReply : Request → Answer → Type 0
 IsReply (Native WindowDocument thing arguments) answer = answer ≡ ValueAnswer (ThingValue (thing_of Document 1))
 IsReply (Native DocumentTitle thing arguments) answer = IsTextReply answer
-IsReply request answer = IsEmptyReply answer
+IsReply (Native DocumentSetTitle thing arguments) answer = IsTitleReply answer
+IsReply request answer = answer ≡ ValueAnswer Undefined
 
 -- an entry ends without a fault of syntax
 abbrev pub IsEnd : Act → Type 0
@@ -103,18 +104,22 @@ asked zone request k c f e tame h = charged zone 1 (λ fuel. Asks request (λ gi
 
 document_tame : (zone : Zone) (k : Thing → ℕ → Program Bare) (c : Cont) (f : ℕ) → Ends zone c → ((thing : Thing) (g : ℕ) → Tame zone (k thing g)) → Tame zone (document_row k c f)
 document_tame zone k c f e h =
-    charged zone 1 (ask (Native WindowDocument the_window []) (with_document k c) c) c f e
-    (λ g. asked zone (Native WindowDocument the_window []) (with_document k c) c g e tt
-    (λ answer j reply. subst (λ (a : Answer). Tame zone (with_document k c a j)) (sym reply) (h (thing_of Document 1) j)))
+    charged zone 1 (ask (Native WindowDocument the_window []) (with_document k) c) c f e
+    (λ g. asked zone (Native WindowDocument the_window []) (with_document k) c g e tt
+    (λ answer j reply. subst (λ (a : Answer). Tame zone (with_document k a j)) (sym reply) (h (thing_of Document 1) j)))
 
 text_tame : (zone : Zone) (k : List ℕ → ℕ → Program Bare) (c : Cont) (answer : Answer) (f : ℕ) → Ends zone c → ((text : List ℕ) (g : ℕ) → IsText text → Tame zone (k text g))
     → IsTextReply answer → Tame zone (with_text k c answer f)
 text_tame zone k c answer f e h (inl (text, short, is)) = subst (λ (a : Answer). Tame zone (with_text k c a f)) (sym is) (h text f short)
-text_tame zone k c answer f e h (inr (reason, is)) = subst (λ (a : Answer). Tame zone (with_text k c a f)) (sym is) (e.throws reason f)
+text_tame zone k c answer f e h (inr is) = subst (λ (a : Answer). Tame zone (with_text k c a f)) (sym is) (e.throws TooLong f)
 
-nothing_tame : (zone : Zone) (k : ℕ → Program Bare) (c : Cont) (answer : Answer) (f : ℕ) → Ends zone c → ((g : ℕ) → Tame zone (k g)) → IsEmptyReply answer → Tame zone (with_nothing k c answer f)
-nothing_tame zone k c answer f e h (inl is) = subst (λ (a : Answer). Tame zone (with_nothing k c a f)) (sym is) (h f)
-nothing_tame zone k c answer f e h (inr (reason, is)) = subst (λ (a : Answer). Tame zone (with_nothing k c a f)) (sym is) (e.throws reason f)
+nothing_tame : (zone : Zone) (k : ℕ → Program Bare) (answer : Answer) (f : ℕ) → ((g : ℕ) → Tame zone (k g)) → answer ≡ ValueAnswer Undefined → Tame zone (with_nothing k answer f)
+nothing_tame zone k answer f h is = subst (λ (a : Answer). Tame zone (with_nothing k a f)) (sym is) (h f)
+
+title_tame : (zone : Zone) (k : ℕ → Program Bare) (c : Cont) (answer : Answer) (f : ℕ) → Ends zone c → ((g : ℕ) → Tame zone (k g)) → IsTitleReply answer → Tame zone (with_title k c answer f)
+title_tame zone k c answer f e h (inl is) = subst (λ (a : Answer). Tame zone (with_title k c a f)) (sym is) (h f)
+title_tame zone k c answer f e h (inr (inl is)) = subst (λ (a : Answer). Tame zone (with_title k c a f)) (sym is) (e.throws Limit f)
+title_tame zone k c answer f e h (inr (inr is)) = subst (λ (a : Answer). Tame zone (with_title k c a f)) (sym is) (e.throws TooDeep f)
 
 part_tame : (zone : Zone) (part : Part) (c : Cont) (f : ℕ) → IsSound part → Ends zone c → Follows zone 1 c → Tame zone (part_row part c f)
 part_tame zone Title c f sound e h =
@@ -198,7 +203,8 @@ logs Page text small short = short
 logs XrayScript text small short = (short, refl)
 logs zone text small short = absurd small
 
-logs_reply : (zone : Zone) (text : List ℕ) (answer : Answer) → IsSmallZone zone → IsReply (Native (log_member zone) the_window (StrValue text ∷ [])) answer → IsEmptyReply answer
+logs_reply : (zone : Zone) (text : List ℕ) (answer : Answer) → IsSmallZone zone → IsReply (Native (log_member zone) the_window (StrValue text ∷ [])) answer
+    → answer ≡ ValueAnswer Undefined
 logs_reply Page text answer small h = h
 logs_reply XrayScript text answer small h = h
 logs_reply zone text answer small h = absurd small
@@ -210,15 +216,15 @@ GoesOn zone c = Ends zone c × ((f : ℕ) → Tame zone (c Next f))
 logged_tame : (zone : Zone) (value : Prim) (c : Cont) (f : ℕ) → IsSmallZone zone → Fine 8 value → GoesOn zone c → Tame zone (logged_row zone value c f)
 logged_tame zone value c f small fine (e, next) =
     let request : Request = Native (log_member zone) the_window (StrValue (text_of value) ∷ []) in
-    charged zone (text_units (text_of value)) (ask request (with_nothing (c Next) c) c) c f e
-    (λ g. asked zone request (with_nothing (c Next) c) c g e (logs zone (text_of value) small (value_text value fine))
-    (λ answer j reply. nothing_tame zone (c Next) c answer j e next (logs_reply zone (text_of value) answer small reply)))
+    charged zone (text_units (text_of value)) (ask request (with_nothing (c Next)) c) c f e
+    (λ g. asked zone request (with_nothing (c Next)) c g e (logs zone (text_of value) small (value_text value fine))
+    (λ answer j reply. nothing_tame zone (c Next) answer j next (logs_reply zone (text_of value) answer small reply)))
 
 written_tame : (zone : Zone) (document : Thing) (value : Prim) (c : Cont) (f : ℕ) → Fine 8 value → GoesOn zone c → Tame zone (written_row document value c f)
 written_tame zone document value c f fine (e, next) =
     let request : Request = Native DocumentSetTitle document (StrValue (text_of value) ∷ []) in
-    charged zone (argument_units value) (ask request (with_nothing (c Next) c) c) c f e
-    (λ g. asked zone request (with_nothing (c Next) c) c g e (value_text value fine) (λ answer j reply. nothing_tame zone (c Next) c answer j e next reply))
+    charged zone (argument_units value) (ask request (with_title (c Next) c) c) c f e
+    (λ g. asked zone request (with_title (c Next) c) c g e (value_text value fine) (λ answer j reply. title_tame zone (c Next) c answer j e next reply))
 
 line_tame : (zone : Zone) (line : Line) (c : Cont) (f : ℕ) → IsSmallZone zone → IsSoundSum (Rattle.small_forms.specs.Scripts.sum_of line) → GoesOn zone c → Tame zone (line_row zone line c f)
 line_tame zone (Log sum) c f small sound (e, next) =
