@@ -5,6 +5,7 @@ ghost use Rattle.dom_semantics.specs.Events as spec;
 ghost use Rattle.dom_semantics.specs.Walks.{walk_begun};
 ghost use Rattle.dom_semantics.specs.declared.events.Flag.TheVariants.{Prevented as ThePrevented};
 ghost use Rattle.dom_events.specs.Flags as flags;
+ghost use Rattle.dom_events.specs.Progress.{going};
 ghost use Rattle.dom_events.specs.Targets.{HasTarget};
 
 use crate::path::visits;
@@ -104,7 +105,7 @@ impl Events {
     ) -> Result<Walk, EventFault>
         requires event { event < length self.old }
         requires target { HasTarget tree.now target }
-        ensures walk { IfOk result (λ w. w ≡ walk_begun tree.now event target (spec.event_at self.old event).form.bubbles) }
+        ensures walk { IfOk result (λ w. w ≡ going (walk_begun tree.now event target (spec.event_at self.old event).form.bubbles)) }
         ensures events { OnOk result (self.new ≡ spec.with_event self.old event (spec.event_begun target by_script (spec.event_at self.old event))) }
         ensures err { OnErr result (self.new ≡ self.old) }
         ensures busy { IsErrOf result EventFault.Busy ↔ ((spec.event_at self.old event).in_dispatch ≡ true) }

@@ -1,10 +1,11 @@
 //! The walk of an event along its path (DOM, 2.9 Dispatching events): which listener is called next.
 
-ghost use Rattle.std.specs.Prelude.{◌≡◌, ◌<◌, ◌≤◌, ◌+◌, ℕ, List, drop, length, option_map, position, OnErr, IfOk, IfSome, false, []};
+ghost use Rattle.std.specs.Prelude.{◌≡◌, ◌<◌, ◌≤◌, ◌+◌, ℕ, List, drop, length, option_map, position, OnErr, IfOk, IfSome, Ok, None, true, false, []};
 ghost use Rattle.std.specs.declared.option.Option.{Option};
 ghost use Rattle.dom_semantics.specs.declared.listeners.Visit.{Visit as AnyVisit};
 ghost use Rattle.dom_semantics.specs.Events as event;
 ghost use Rattle.dom_semantics.specs.Walks as spec;
+ghost use Rattle.dom_events.specs.Progress.{going};
 ghost use Rattle.dom_events.specs.Steps.{Steps, Proceeds, Ends, came_step, found_at};
 ghost use Rattle.dom_semantics.specs.Walks.{is_number};
 
@@ -17,7 +18,7 @@ use door::Thing;
 use std::alloc::Global;
 use std::marker::Model;
 
-/// What is left of a walk. Contracts see it as `Walk` of the definitions.
+/// A walk: what is left of it, which contracts see as `Walk` of the definitions, and whether it has ended.
 #[derive(Debug, Drop)]
 pub struct Walk {
     event: u32,
@@ -28,16 +29,17 @@ pub struct Walk {
     /// All visits, and how many have begun.
     visits: Vec<Visit>,
     next: usize,
+    ended: bool,
     alloc: Global,
 }
 
 impl Model for Walk {
     ghost use Rattle.std.specs.Prelude.{drop, length, ◌≤◌};
-    ghost use Rattle.dom_semantics.specs.Walks as spec;
+    ghost use Rattle.dom_events.specs.Progress.{Progress};
 
-    ghost Value = { spec.Walk };
+    ghost Value = { Progress };
 
-    ghost view = { λ w. record { event = w.event; here = w.here; copied = drop w.at w.copied.items; ahead = drop w.next w.visits.items } };
+    ghost view = { λ w. record { left = record { event = w.event; here = w.here; copied = drop w.at w.copied.items; ahead = drop w.next w.visits.items }; ended = w.ended } };
 
     ghost invariant = { λ w. (w.at ≤ length w.copied.items) × (w.next ≤ length w.visits.items) };
 }
@@ -45,7 +47,7 @@ impl Model for Walk {
 impl Walk {
     /// Before the first of these visits.
     pub(crate) fn new(alloc: Global, event: u32, target: Thing, visits: Vec<Visit>) -> Walk
-        ensures { result ≡ record { event = event; here = spec.visit_of 0 false target; copied = []; ahead = visits.items } }
+        ensures { result ≡ going (record { event = event; here = spec.visit_of 0 false target; copied = []; ahead = visits.items }) }
     {
         Walk {
             event,
@@ -58,20 +60,21 @@ impl Walk {
             at: 0,
             visits,
             next: 0,
+            ended: false,
             alloc,
         }
     }
 
     /// The event that walks.
     pub fn event(&self) -> u32
-        ensures { result ≡ self.now.event }
+        ensures { result ≡ self.now.left.event }
     {
         self.event
     }
 
     /// Advances to the listener that is due, if there is one.
     fn step(&mut self, registered: &[Registration], event: &Event) -> Mem<Option<Due>>
-        ensures ok { IfOk result (λ due. Steps (spec.step_of registered.now event.now self.old) due self.old self.new) }
+        ensures ok { IfOk result (λ due. Steps (spec.step_of registered.now event.now self.old.left) due self.old self.new) }
         ensures err { OnErr result (self.new ≡ self.old) }
     {
         if event.stop_now {
@@ -93,7 +96,7 @@ impl Walk {
 
     /// The same at the first visit ahead where one is due.
     fn step_along(&mut self, registered: &[Registration], kind: &Text) -> Mem<Option<Due>>
-        ensures ok { IfOk result (λ due. Steps (spec.step_along registered.now kind.now self.old.event self.old.ahead) due self.old self.new) }
+        ensures ok { IfOk result (λ due. Steps (spec.step_along registered.now kind.now self.old.left.event self.old.left.ahead) due self.old self.new) }
         ensures err { OnErr result (self.new ≡ self.old) }
     {
         match first_visit(self.alloc, registered, kind, &self.visits[self.next..])? {
@@ -192,19 +195,24 @@ fn due_at(here: Visit, a: &Registration) -> Due
 }
 
 /// Advances to the listener that is due: the event's current target and phase become those of its visit.
-/// At the end of the walk there is none, and the event's flags are cleared (DOM, dispatch, steps 6 to 10). Where there is
-/// no memory, nothing changes. Each visit costs the registered listeners of the page.
+/// At the end of the walk there is none, and the event's flags are cleared (DOM, dispatch, steps 6 to 10). A walk that
+/// has ended stays at its end: a further call answers None and changes nothing. Where there is no memory, nothing
+/// changes. Each visit costs the registered listeners of the page.
 pub fn next_listener(
     walk: &mut Walk,
     listeners: &Listeners,
     events: &mut Events,
 ) -> Mem<Option<Due>>
-    requires { walk.old.event < length events.old }
-    ensures ok { IfOk result (λ due. Proceeds (spec.step_of listeners.now.registered (event.event_at events.old walk.old.event) walk.old) due walk.old walk.new events.old events.new) }
-    ensures ended { IfOk result (λ due. Ends (spec.step_of listeners.now.registered (event.event_at events.old walk.old.event) walk.old) due (event.event_at events.new walk.old.event)) }
+    requires { walk.old.left.event < length events.old }
+    ensures ok { walk.old.ended ≡ false → IfOk result (λ due. Proceeds (spec.step_of listeners.now.registered (event.event_at events.old walk.old.left.event) walk.old.left) due walk.old walk.new events.old events.new) }
+    ensures ended { walk.old.ended ≡ false → IfOk result (λ due. Ends (spec.step_of listeners.now.registered (event.event_at events.old walk.old.left.event) walk.old.left) due (event.event_at events.new walk.old.left.event)) }
+    ensures again { walk.old.ended ≡ true → (result ≡ Ok None) × (walk.new ≡ walk.old) × (events.new ≡ events.old) }
     ensures err { OnErr result (walk.new ≡ walk.old) }
     ensures events { OnErr result (events.new ≡ events.old) }
 {
+    if walk.ended {
+        return Ok(None);
+    }
     let number = walk.event();
     match walk.step(listeners.as_slice(), events.at(number))? {
         Some(due) => {
@@ -212,6 +220,7 @@ pub fn next_listener(
             Ok(Some(due))
         }
         None => {
+            walk.ended = true;
             events.end(number);
             Ok(None)
         }

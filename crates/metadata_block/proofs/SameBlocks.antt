@@ -1,6 +1,6 @@
 -- Blocks that say the same select the same addresses.
-use Rattle.std.specs.Prelude.{◌≡◌, ◌⊎◌, List, [], ◌∷◌, refl}
-use Rattle.std.proofs.Common.{sym, subst, inl, inr}
+use Rattle.std.specs.Prelude.{◌≡◌, List, [], ◌∷◌, refl}
+use Rattle.std.proofs.Common.{subst, inl, inr}
 use Rattle.metadata_block.specs.Same.{SameRules, SameMeta}
 use Rattle.metadata_block.specs.Selection.{AnyFits, IsIncluded, IsSelected}
 use Rattle.metadata_block.specs.declared.meta.Meta.{Meta}

@@ -21,7 +21,7 @@ pub fn blocks_are_read_one_way()
 
 /// A userscript's block says one thing at most, a userscript has one fault at most, and none has both, but for faults whose
 /// cause is memory or the size of a regular expression.
-pub fn a_block_has_one_answer()
+pub fn a_block_has_at_most_one_answer()
     ensures one { (s : List ℕ) (m n : Meta) → ReadsBlock s m → ReadsBlock s n → SameMeta m n }
     ensures one_fault { (s : List ℕ) (f g : MetaFault) → HasFault s f → HasFault s g → f ≡ g }
     ensures not_both { (s : List ℕ) (m : Meta) (f : MetaFault) → ReadsBlock s m → HasFault s f → ⊥ }

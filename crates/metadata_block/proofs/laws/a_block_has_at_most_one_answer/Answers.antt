@@ -1,5 +1,5 @@
 use Rattle.metadata_block.proofs.OneAnswer.{one_meta, one_fault, not_both}
-use Rattle.metadata_block.proofs.laws.a_block_has_one_answer.Goals as goal
+use Rattle.metadata_block.proofs.laws.a_block_has_at_most_one_answer.Goals as goal
 
 pub returns-clause-one : goal.returns-clause-one
 returns-clause-one c = λ s m n. one_meta c.rules_are_read_one_way.ensures.one s m n
