@@ -7,7 +7,8 @@ use Rattle.dom_semantics.specs.declared.kept.Owner.{Owner}
 use Rattle.std.proofs.lemmas.List.{length-map}
 use Rattle.std.proofs.lemmas.List.Elements.{All-nil, All-cons}
 use Rattle.base_text.specs.Scalars.{utf8_len}
-use Rattle.door.specs.declared.limits.TheConstants.{ADDRESS_LIMIT, USERSCRIPT_LIMIT}
+use Rattle.base_text.specs.declared.text.TheConstants.{TEXT_LIMIT}
+use Rattle.door.specs.declared.limits.TheConstants.{USERSCRIPT_LIMIT}
 use Rattle.dom_semantics.specs.declared.selectors.Compound.{Compound}
 use Rattle.dom_semantics.specs.Stage.{is_grant_set}
 use Rattle.dom_semantics.specs.Stores.{is_owner, is_short_owner}
@@ -93,7 +94,7 @@ pub given_in_order : (address : List ℕ) (pieces : List Piece) (scripts : List 
 given_in_order address pieces scripts read small cut = record {
   setting = record {
     reading = small.reading;
-    address = within (utf8_len address) ADDRESS_LIMIT small.short;
+    address = within (utf8_len address) TEXT_LIMIT (omega (arith, small.short));
     scripts = few scripts small.few;
     owners = short_owners scripts small.forms;
     grants = length-map (map script_given scripts) (λ (script : given.Userscript). script.grants) ∙ sym (length-map (map script_given scripts) (λ (script : given.Userscript). script.owner));
