@@ -24,7 +24,7 @@ pub fn leaf(token: &Token) -> Mem<Expr>
 {
     match token.symbol() {
         Symbol::Number => match number_of(token.text.as_str()) {
-            Some(n) => Ok(Expr::Number(n)),
+            Some(n) => Ok(Expr::Number(n as i64)),
             None => Ok(Expr::Number(0)),
         },
         Symbol::Str => Ok(Expr::Str(token.text.share()?)),

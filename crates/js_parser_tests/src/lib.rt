@@ -3,6 +3,8 @@
 #![tactic(auto)]
 
 #[cfg(test)]
+mod declared;
+#[cfg(test)]
 mod deep;
 #[cfg(test)]
 mod fails;

@@ -1,5 +1,5 @@
 -- The expressions, one row for each form (ECMAScript, 13). A row is given the meanings of its parts with the levels that are left.
-use Rattle.std.specs.Prelude.{ℕ, true, List, [], ◌∷◌, Option, Some, None, pos}
+use Rattle.std.specs.Prelude.{ℕ, true, List, [], ◌∷◌, Option, Some, None}
 use Rattle.base_text.specs.declared.operators.BinaryOp.{BinaryOp}
 use Rattle.base_text.specs.declared.operators.UnaryOp.{UnaryOp}
 use Rattle.base_text.specs.declared.operators.UnaryOp.TheVariants as unary
@@ -155,7 +155,7 @@ assign_by_row ev op a b here m f c =
 abbrev pub expr_row : Evaluator → ExprForm → Context → Meaning
 expr_row ev o.This here m f c = c (Gives here.this) m f
 expr_row ev (o.Name name) here m f c = name_row ev missing_throws name here m f c
-expr_row ev (o.Number n) here m f c = c (Gives (number (pos n))) m f
+expr_row ev (o.Number z) here m f c = c (Gives (number z)) m f
 expr_row ev (o.Str t) here m f c = c (Gives (text t)) m f
 expr_row ev (o.Bool b) here m f c = c (Gives (boolean b)) m f
 expr_row ev o.Null here m f c = c (Gives null) m f

@@ -1,6 +1,6 @@
 -- The functions of Array.prototype that are scripts (ECMAScript, 23.1.3, in this project's own text). Above each stands its text, where L is
 -- `for (var i = 0; i < this.length; i = i + 1)`.
-use Rattle.std.specs.Prelude.{ℕ, true, false, List, [], ◌∷◌, Some, None, codes}
+use Rattle.std.specs.Prelude.{ℕ, true, false, List, [], ◌∷◌, Some, None, pos, codes}
 use Rattle.base_text.specs.declared.operators.BinaryOp.{BinaryOp}
 use Rattle.base_text.specs.declared.operators.BinaryOp.TheVariants as binary
 use Rattle.base_text.specs.declared.operators.UnaryOp.TheVariants as unary
@@ -56,6 +56,9 @@ plus l e = ex.Binary binary.Add l e
 abbrev is : Expr → BinaryOp → Expr → Expr
 is l op e = ex.Binary op l e
 
+abbrev number : ℕ → Expr
+number k = ex.Number (pos k)
+
 -- `this[i]`
 abbrev item : Expr
 item = ex.Index ex.This i
@@ -85,7 +88,7 @@ begun name e = record { name = name; value = Some e }
 -- `for (var i = 0; i < this.length; i = i + 1) { .. }`
 abbrev each : List Stmt → Stmt
 each body =
-    st.For (start.Var (begun (codes "i") (ex.Number 0) ∷ [])) (Some (is i binary.Less (length_of ex.This))) (Some (ex.Assign i (plus i (ex.Number 1)))) (st.Block body)
+    st.For (start.Var (begun (codes "i") (number 0) ∷ [])) (Some (is i binary.Less (length_of ex.This))) (Some (ex.Assign i (plus i (number 1)))) (st.Block body)
 
 -- `r[r.length] = e;`
 abbrev appends : Expr → Stmt
@@ -119,7 +122,7 @@ every = of (codes "f" ∷ []) (each (when (ex.Unary unary.Not applied) (returns 
 
 -- function (x) { L { if (this[i] === x) { return i; } } return -1; }
 abbrev pub index_of : Function
-index_of = of (codes "x" ∷ []) (each (when (is item binary.Same x) (returns i ∷ []) ∷ []) ∷ returns (ex.Unary unary.Minus (ex.Number 1)) ∷ [])
+index_of = of (codes "x" ∷ []) (each (when (is item binary.Same x) (returns i ∷ []) ∷ []) ∷ returns (ex.Unary unary.Minus (number 1)) ∷ [])
 
 -- `if (e op 0) { e = e + n; }` and the like
 abbrev sets : Expr → BinaryOp → Expr → Expr → Stmt
@@ -130,9 +133,9 @@ sets l op e value = when (is l op e) (writes l value ∷ [])
 abbrev pub slice : Function
 slice = of (codes "a" ∷ codes "b" ∷ []) (
     st.Var (begun (codes "r") (ex.Array []) ∷ begun (codes "n") (length_of ex.This) ∷ bare (codes "u") ∷ [])
-    ∷ sets a binary.Same u (ex.Number 0) ∷ sets b binary.Same u n ∷ sets a binary.Less (ex.Number 0) (plus a n) ∷ sets b binary.Less (ex.Number 0) (plus b n)
-    ∷ sets a binary.Less (ex.Number 0) (ex.Number 0) ∷ sets b binary.Greater n n
-    ∷ st.For start.Nothing (Some (is a binary.Less b)) (Some (ex.Assign a (plus a (ex.Number 1)))) (st.Block (appends (ex.Index ex.This a) ∷ []))
+    ∷ sets a binary.Same u (number 0) ∷ sets b binary.Same u n ∷ sets a binary.Less (number 0) (plus a n) ∷ sets b binary.Less (number 0) (plus b n)
+    ∷ sets a binary.Less (number 0) (number 0) ∷ sets b binary.Greater n n
+    ∷ st.For start.Nothing (Some (is a binary.Less b)) (Some (ex.Assign a (plus a (number 1)))) (st.Block (appends (ex.Index ex.This a) ∷ []))
     ∷ returns r ∷ [])
 
 -- function (s) { var t = "", v, u; if (s === u) { s = ","; } L { v = this[i]; if (i > 0) { t = t + s; } if (v !== u && v !== null) { t = t + v; } } return t; }
@@ -140,7 +143,7 @@ abbrev pub join : Function
 join = of (codes "s" ∷ []) (
     st.Var (begun (codes "t") (ex.Str []) ∷ bare (codes "v") ∷ bare (codes "u") ∷ [])
     ∷ sets s binary.Same u (ex.Str (codes ","))
-    ∷ each (writes v item ∷ when (is i binary.Greater (ex.Number 0)) (writes t (plus t s) ∷ [])
+    ∷ each (writes v item ∷ when (is i binary.Greater (number 0)) (writes t (plus t s) ∷ [])
     ∷ when (ex.And (is v binary.NotSame u) (is v binary.NotSame ex.Null)) (writes t (plus t v) ∷ []) ∷ [])
     ∷ returns t ∷ [])
 
@@ -148,6 +151,6 @@ join = of (codes "s" ∷ []) (
 abbrev pub concat : Function
 concat = of (codes "b" ∷ []) (
     st.Var (begun (codes "r") (ex.Array []) ∷ []) ∷ each (writes (ex.Index r i) item ∷ [])
-    ∷ st.For (start.Expression (ex.Assign i (ex.Number 0))) (Some (is i binary.Less (length_of b))) (Some (ex.Assign i (plus i (ex.Number 1))))
+    ∷ st.For (start.Expression (ex.Assign i (number 0))) (Some (is i binary.Less (length_of b))) (Some (ex.Assign i (plus i (number 1))))
     (st.Block (appends (ex.Index b i) ∷ []))
     ∷ returns r ∷ [])

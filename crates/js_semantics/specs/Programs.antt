@@ -1,5 +1,5 @@
 -- Small programs of the page, and what they do: their log, how they end, and the units that they use.
-use Rattle.std.specs.Prelude.{◌≡◌, ℕ, List, [], ◌∷◌, ◌++◌, Option, Some, None, true, false, codes}
+use Rattle.std.specs.Prelude.{◌≡◌, ℕ, List, [], ◌∷◌, ◌++◌, Option, Some, None, true, false, pos, codes}
 use Rattle.door.specs.declared.zones.Zone.TheVariants.{Page, XrayScript}
 use Rattle.door.specs.declared.values.Value.TheVariants as door
 use Rattle.door.specs.declared.values.Kind.TheVariants.{Event}
@@ -106,7 +106,7 @@ Does fuel levels body log outcome units = DoesIn (fresh the_page) fuel levels bo
 -- ---- how programs are written
 
 abbrev pub n : ℕ → Expr
-n k = ex.Number k
+n k = ex.Number (pos k)
 
 abbrev pub do_ : Expr → Stmt
 do_ e = st.Expression e

@@ -1,5 +1,5 @@
 -- Which symbols play which part in the grammar, and what a symbol makes of its operands.
-use Rattle.std.specs.Prelude.{◌≡◌, ℕ, zero, suc, Bool, true, false, ◌||◌, ◌&&◌, not, cond, List, [], ◌∷◌, Option, Some, None, encode_utf8_all}
+use Rattle.std.specs.Prelude.{◌≡◌, ℕ, zero, suc, Bool, true, false, ◌||◌, ◌&&◌, not, cond, List, [], ◌∷◌, Option, Some, None, encode_utf8_all, pos}
 use Rattle.base_text.specs.declared.operators.BinaryOp.TheVariants as binary
 use Rattle.base_text.specs.declared.operators.UnaryOp.TheVariants as unary
 use Rattle.js_syntax.specs.declared.token.Token.{Token}
@@ -41,7 +41,7 @@ value_of (Some n) = n
 
 -- what a token alone is, by its symbol and its text
 abbrev pub leaf_of : Symbol → List ℕ → Expr
-leaf_of s.Number text = ex.Number (value_of (number_of (encode_utf8_all text)))
+leaf_of s.Number text = ex.Number (pos (value_of (number_of (encode_utf8_all text))))
 leaf_of s.Str text = ex.Str text
 leaf_of s.This text = ex.This
 leaf_of s.True text = ex.Bool true

@@ -16,6 +16,6 @@ pub use symbol::{Symbol, is_reserved_word, number_of};
 pub use token::{Token, TokenKind, Tokens};
 pub use token_fault::{LexFault, LexKind};
 pub use tree::{
-    Catch, Code, Declaration, Expr, ForStart, ForTarget, Function, Property, Script, Stmt, Stmts,
+    Catch, Declaration, Expr, ForStart, ForTarget, Function, Property, Script, Stmt, Stmts,
     UpdateOp,
 };

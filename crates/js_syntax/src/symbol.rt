@@ -1,7 +1,8 @@
 //! The terminal symbols of the grammar, and which of them a token is (ECMAScript, 12).
-ghost use Rattle.std.specs.Prelude.{◌≡◌, ◌&&◌};
+ghost use Rattle.std.specs.Prelude.{◌≡◌, ◌≤◌, ◌&&◌, IfSome};
 ghost use Rattle.std.specs.Str.{chars};
 ghost use Rattle.js_syntax.specs.TokenScalars.{is_name_start, is_name_part};
+ghost use Rattle.js_syntax.specs.TokenSpelling.{widest};
 ghost use Rattle.js_syntax.specs.ReservedWords.{is_reserved_word, reserved_symbols};
 ghost use Rattle.js_syntax.specs.SymbolNumbers.{amid};
 ghost use Rattle.js_syntax.specs.Symbols.{word_of, punctuator_of, is_spelled, name_of, number_from, number_of, symbol_of, number};
@@ -272,7 +273,8 @@ fn name(text: &Text) -> Symbol
 
 #[tactic(auto, unfolding(crate::specs::Symbols::number_from))]
 fn number_from(mut digits: &[u8]) -> Option<u64>
-    ensures { result ≡ number_from 0 digits.entry.now }
+    ensures value { result ≡ number_from 0 digits.entry.now }
+    ensures within { IfSome result (λ n. n ≤ widest) }
 {
     let mut value = 0u64;
     while let [digit, rest @ ..] = digits {
@@ -290,7 +292,8 @@ fn number_from(mut digits: &[u8]) -> Option<u64>
 
 /// The number that decimal digits are, from 0 to 2^53 - 1 and without a leading zero.
 pub fn number_of(digits: &str) -> Option<u64>
-    ensures { result ≡ number_of digits.now }
+    ensures value { result ≡ number_of digits.now }
+    ensures within { IfSome result (λ n. n ≤ widest) }
 {
     match digits.as_bytes() {
         [] => None,

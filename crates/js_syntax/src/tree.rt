@@ -23,7 +23,7 @@ pub enum Expr {
     /// A name.
     Name(Text),
     /// A number from 0 to 9007199254740991.
-    Number(u64),
+    Number(i64),
     /// A text.
     Str(Text),
     /// `true` or `false`
@@ -90,9 +90,6 @@ pub struct Function {
     pub params: Items<Text>,
     pub body: Items<Stmt>,
 }
-
-/// A function that is shared by those who hold it.
-pub type Code = Shared<Function>;
 
 /// A declared name, and the value that it begins with.
 #[cycle(tree)]

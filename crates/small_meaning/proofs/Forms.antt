@@ -1,5 +1,6 @@
 -- One level of the expressions and statements of small scripts, and their units.
 use Rattle.std.proofs.Common.{◌≡◌, refl, sym, subst, ℕ, suc, Bool, List, [], ◌∷◌}
+use Rattle.std.specs.Prelude.{ℤ}
 use denote.Hole.Carrier.{out, shown, hidden}
 use Rattle.base_text.specs.declared.operators.BinaryOp.{BinaryOp}
 use Rattle.js_syntax.specs.declared.tree.Expr.{Expr, out-Expr}
@@ -30,9 +31,9 @@ pub member_form : (e : Expr) (x : List ℕ) → out-Expr (ex.Member e x) ≡ o.M
 unfolding out-Expr out-Stmt out shown hidden b.shown-the_row-Expr-0 b.shown-the_row-Property-1 b.shown-the_row-Stmt-2 b.shown-the_row-Function-3 b.shown-the_row-Expr-4 b.shown-the_row-Declaration-5 b.shown-the_row-Stmt-6
 member_form e x = refl
 
-pub number_form : (n : ℕ) → out-Expr (ex.Number n) ≡ o.Number n
+pub number_form : (z : ℤ) → out-Expr (ex.Number z) ≡ o.Number z
 unfolding out-Expr out-Stmt out shown hidden b.shown-the_row-Expr-0 b.shown-the_row-Property-1 b.shown-the_row-Stmt-2 b.shown-the_row-Function-3 b.shown-the_row-Expr-4 b.shown-the_row-Declaration-5 b.shown-the_row-Stmt-6
-number_form n = refl
+number_form z = refl
 
 pub text_form : (t : List ℕ) → out-Expr (ex.Str t) ≡ o.Str t
 unfolding out-Expr out-Stmt out shown hidden b.shown-the_row-Expr-0 b.shown-the_row-Property-1 b.shown-the_row-Stmt-2 b.shown-the_row-Function-3 b.shown-the_row-Expr-4 b.shown-the_row-Declaration-5 b.shown-the_row-Stmt-6

@@ -61,7 +61,7 @@ document_alike setup k least n next c d m f b s r h =
 part_alike : (setup : Setup) (k : ℕ) (least : Bool) (n : ℕ) (part : Part) (c : small.Cont) (d : ev.Cont) (m : Machine) (f : ℕ) → IsSound part → Begins setup → Stops setup k least c d → Ready setup least (suc k) m → GivesAlike setup k least 999 c d
     → Alike setup k (small.part_row part c f) ((evaluator (suc (suc (suc n)))).expr (part_expr part) at_top m f d)
 part_alike setup k least n (Number v) c d m f h b s r g =
-    expr_charged setup k least (suc (suc n)) (ex.Number v) (o.Number v) (c (small.Gives (NumberPrim v))) c d m f (number_form v) s r (λ left. g (NumberPrim v) m left h r)
+    expr_charged setup k least (suc (suc n)) (ex.Number (pos v)) (o.Number (pos v)) (c (small.Gives (NumberPrim v))) c d m f (number_form (pos v)) s r (λ left. g (NumberPrim v) m left h r)
 part_alike setup k least n (Quoted t) c d m f h b s r g =
     expr_charged setup k least (suc (suc n)) (ex.Str t) (o.Str t) (c (small.Gives (StrPrim t))) c d m f (text_form t) s r (λ left. g (StrPrim t) m left h r)
 part_alike setup k least n Title c d m f h b s r g =

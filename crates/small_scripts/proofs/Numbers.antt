@@ -2,6 +2,7 @@
 use Rattle.std.proofs.Common.{◌≡◌, ℕ, ◌≤◌, Bool, true, false, ◌&&◌, ◌==◌, ◌||◌, not, [], ◌∷◌, ◌++◌, Option, Some, None, encode_utf8_all, refl, sym, ap, subst, ◌∙◌, arith}
 use Rattle.std.specs.List.{list_all}
 use Rattle.std.specs.Fmt.{decimal, digits as digits_of}
+use Rattle.std.specs.Prelude.{pos}
 use Rattle.std.specs.Str.Parse.{digits_value}
 use Rattle.js_syntax.specs.declared.token.TokenKind.TheVariants as kinds
 use Rattle.js_syntax.specs.declared.symbol.Symbol.TheVariants as s
@@ -66,8 +67,8 @@ reads : (n : ℕ) → n ≤ 999 → number_of (encode_utf8_all (decimal n)) ≡ 
 unfolding is_good
 reads n h = number_is _ n (both_right (spells (decimal n) n) _ (good n h))
 
-pub number_leaf : (n : ℕ) → n ≤ 999 → leaf_of s.Number (decimal n) ≡ ex.Number n
-number_leaf n h = ap (λ (o : Option ℕ). ex.Number (value_of o)) (reads n h)
+pub number_leaf : (n : ℕ) → n ≤ 999 → leaf_of s.Number (decimal n) ≡ ex.Number (pos n)
+number_leaf n h = ap (λ (o : Option ℕ). ex.Number (pos (value_of o))) (reads n h)
 
 number_symbol_of : (w : Scalars) (from to : ℕ) (line : Bool) → symbol_of (token kinds.Number w from to line) ≡ number_symbol (number_of (encode_utf8_all w))
 unfolding symbol_of

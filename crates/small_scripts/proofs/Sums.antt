@@ -2,6 +2,7 @@
 use Rattle.std.proofs.Common.{◌≡◌, ℕ, ◌≤◌, true, false, ◌&&◌, ◌==◌, List, [], ◌∷◌, ◌++◌, length, codes, refl, sym, ap, subst, append_assoc, arith}
 use Rattle.std.specs.List.{flat_map}
 use Rattle.std.specs.Fmt.{decimal}
+use Rattle.std.specs.Prelude.{pos}
 use Rattle.std.proofs.lemmas.Bool.Decides.{nat_tests}
 use Rattle.unicode_ident.proofs.Computing.{unicode_ident}
 use Rattle.base_text.specs.Scalars.{utf8_len}
@@ -91,7 +92,7 @@ past_suffixed : (P : Parts) (part : Part) (Q : Tokens → Type 0) (rest : Scalar
 past_suffixed P Title Q rest is short ends stands h =
     as_well _ _ _ (expressions.begins P s.Name (codes "document") (ex.Name (codes "document")) title Q refl expressions.name_leaf) (past_whole_title P Q rest ends stands.no_name h)
 past_suffixed P (Number n) Q rest is short ends stands h =
-    let a = ex.Number n in
+    let a = ex.Number (pos n) in
     let Last = Then (Goes P CHAIN_LIMIT a a) Q in
     as_well (Led s.Number (decimal n) Last) _ _ (expressions.begins P s.Number (decimal n) a a Q (number_leaf n is) expressions.number_leaf)
     (past_number Last n rest is stands.no_digit stands.no_stuck stands.no_hexadecimal (as_well Q Last rest (λ ts q. expressions.goes_no_further P CHAIN_LIMIT a Q ts (ends ts q) q) h))

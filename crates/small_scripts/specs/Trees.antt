@@ -1,5 +1,5 @@
 -- The lines of the small forms as statements of the language (ECMAScript, 13.3 and 13.8, 13.15 and 14.5).
-use Rattle.std.specs.Prelude.{List, [], ◌∷◌, codes, map}
+use Rattle.std.specs.Prelude.{List, [], ◌∷◌, codes, map, pos}
 use Rattle.base_text.specs.declared.operators.BinaryOp.TheVariants as operator
 use Rattle.door.specs.declared.zones.Zone.{Zone}
 use Rattle.door.specs.declared.zones.Zone.TheVariants.{Page}
@@ -19,7 +19,7 @@ title = ex.Member (ex.Name (codes "document")) (codes "title")
 
 abbrev pub part_expr : Part → Expr
 part_expr Title = title
-part_expr (Number n) = ex.Number n
+part_expr (Number n) = ex.Number (pos n)
 part_expr (Quoted text) = ex.Str text
 
 -- each further part is added to what stands before it
