@@ -9,8 +9,9 @@ use Rattle.std.proofs.lemmas.Map.Views.{tells_apart}
 use Rattle.base_text.specs.Scalars.{text_cmp}
 use Rattle.serde_json.specs.Data.{Data, Members, no_members, member, Items, no_items, item}
 use Rattle.serde_json.specs.Events.{members_len}
-use Rattle.gm_store.specs.declared.kept.Kept.{Kept}
-use Rattle.gm_store.specs.declared.kept.Kept.TheVariants.{Str, Bool as Truth, Number}
+use Rattle.dom_semantics.specs.declared.kept.Kept.{Kept}
+use Rattle.dom_semantics.specs.declared.kept.Kept.TheVariants.{Str, Bool as Truth, Number}
+use Rattle.dom_semantics.specs.declared.kept.TheConstants.{VALUE_LIMIT}
 use Rattle.gm_store.specs.Maps.{Values, Names, Maps, names_in, values_in, value_at, with_values, with_value, without_value}
 use Rattle.gm_store.specs.Limits.{IsShort, KeptFits, ValuesFit, NamesFit, MapsFit}
 use Rattle.gm_store.specs.Stored.{IsKept, PutsMembers, AddsScript, AddsScripts, IsStored}
@@ -32,7 +33,7 @@ fit_put k v (e ∷ es) short fits h =
       | Greater ↦ (h.0, h.1, fit_put k v es short fits h.2)
     ]
 
-names_put : (k : List ℕ) (vs : Values) (es : List (List ℕ × Values)) → IsShort k → ValuesFit (entries vs) → len vs ≤ 1000 → NamesFit es → NamesFit (place text_cmp k vs es)
+names_put : (k : List ℕ) (vs : Values) (es : List (List ℕ × Values)) → IsShort k → ValuesFit (entries vs) → len vs ≤ VALUE_LIMIT → NamesFit es → NamesFit (place text_cmp k vs es)
 names_put k vs [] short fits few h = (short, fits, few, tt)
 names_put k vs (e ∷ es) short fits few h =
     elim (text_cmp k e.0) as (λ o. NamesFit (by_order o ((k, vs) ∷ e ∷ es) ((e.0, vs) ∷ es) (e ∷ place text_cmp k vs es))) [
@@ -62,10 +63,10 @@ none_in {X = X} = nothing (entries (empty {X = X} {R = text_cmp})) (sym (len-ent
 
 -- ---- the value at a key
 
-fit_values : (q : List ℕ) (es : List (List ℕ × Values)) → NamesFit es → ValuesFit (entries (unwrap_or (find text_cmp q es) empty)) × (len (unwrap_or (find text_cmp q es) empty) ≤ 1000)
+fit_values : (q : List ℕ) (es : List (List ℕ × Values)) → NamesFit es → ValuesFit (entries (unwrap_or (find text_cmp q es) empty)) × (len (unwrap_or (find text_cmp q es) empty) ≤ VALUE_LIMIT)
 fit_values q [] h = (subst ValuesFit (sym none_in) tt, omega (arith, len-empty text_cmp Kept))
 fit_values q (e ∷ es) h =
-    elim (eq_by_cmp text_cmp q e.0) as (λ b. ValuesFit (entries (unwrap_or (cond b (Some e.1) (find text_cmp q es)) empty)) × (len (unwrap_or (cond b (Some e.1) (find text_cmp q es)) empty) ≤ 1000)) [
+    elim (eq_by_cmp text_cmp q e.0) as (λ b. ValuesFit (entries (unwrap_or (cond b (Some e.1) (find text_cmp q es)) empty)) × (len (unwrap_or (cond b (Some e.1) (find text_cmp q es)) empty) ≤ VALUE_LIMIT)) [
       | true ↦ (h.1, h.2)
       | false ↦ fit_values q es h.3
     ]
@@ -81,12 +82,12 @@ fit_names q (e ∷ es) h =
 names_fit : (m : Maps) (namespace : List ℕ) → MapsFit (entries m) → NamesFit (entries (names_in m namespace))
 names_fit m namespace h = subst (λ (o : Option Names). NamesFit (entries (unwrap_or o empty))) (sym (get-entries m namespace)) (fit_names namespace (entries m) h)
 
-values_fit : (m : Maps) (namespace name : List ℕ) → MapsFit (entries m) → ValuesFit (entries (values_in m namespace name)) × (len (values_in m namespace name) ≤ 1000)
+values_fit : (m : Maps) (namespace name : List ℕ) → MapsFit (entries m) → ValuesFit (entries (values_in m namespace name)) × (len (values_in m namespace name) ≤ VALUE_LIMIT)
 values_fit m namespace name h =
-    subst (λ (o : Option Values). ValuesFit (entries (unwrap_or o empty)) × (len (unwrap_or o empty) ≤ 1000)) (sym (get-entries (names_in m namespace) name))
+    subst (λ (o : Option Values). ValuesFit (entries (unwrap_or o empty)) × (len (unwrap_or o empty) ≤ VALUE_LIMIT)) (sym (get-entries (names_in m namespace) name))
     (fit_values name (entries (names_in m namespace)) (names_fit m namespace h))
 
-with_fit : (m : Maps) (namespace name : List ℕ) (vs : Values) → IsShort namespace → IsShort name → ValuesFit (entries vs) → len vs ≤ 1000 → MapsFit (entries m) → MapsFit (entries (with_values m namespace name vs))
+with_fit : (m : Maps) (namespace name : List ℕ) (vs : Values) → IsShort namespace → IsShort name → ValuesFit (entries vs) → len vs ≤ VALUE_LIMIT → MapsFit (entries m) → MapsFit (entries (with_values m namespace name vs))
 with_fit m namespace name vs short shorter fits few h =
     subst MapsFit (sym (entries-insert texts_total m namespace (insert (names_in m namespace) name vs)))
     (maps_put namespace (insert (names_in m namespace) name vs) (entries m) short
@@ -144,16 +145,16 @@ loaded_back d m s = round_trip m (loaded_fit d m s)
 -- ---- setting
 
 pub set_fit : (m : Maps) (namespace name key : List ℕ) (v : Kept) → IsShort namespace → IsShort name → IsShort key → KeptFits v
-    → ((value_at m namespace name key ≡ None) × (1000 ≤ len (values_in m namespace name)) → ⊥) → MapsFit (entries m) → MapsFit (entries (with_value m namespace name key v))
+    → ((value_at m namespace name key ≡ None) × (VALUE_LIMIT ≤ len (values_in m namespace name)) → ⊥) → MapsFit (entries m) → MapsFit (entries (with_value m namespace name key v))
 set_fit m namespace name key v short shorter shortest fits below h =
     let old = values_in m namespace name in
     let fit = values_fit m namespace name h in
     let grown = len-insert texts_total old key v in
     let most = fit.1 in
-    let few : len (insert old key v) ≤ 1000 =
-    elim (get old key) as (λ o. (((o ≡ None) × (1000 ≤ len old)) → ⊥) → len (insert old key v) ≡ cond (is_some o) (len old) (len old + 1) → len (insert old key v) ≤ 1000) [
+    let few : len (insert old key v) ≤ VALUE_LIMIT =
+    elim (get old key) as (λ o. (((o ≡ None) × (VALUE_LIMIT ≤ len old)) → ⊥) → len (insert old key v) ≡ cond (is_some o) (len old) (len old + 1) → len (insert old key v) ≤ VALUE_LIMIT) [
       | Some w ↦ λ _ e. omega (arith, e, most)
-      | None ↦ λ room e. let short_of : 1000 ≤ len old → ⊥ = λ l. room (refl, l) in omega (arith, e, short_of)
+      | None ↦ λ room e. let short_of : VALUE_LIMIT ≤ len old → ⊥ = λ l. room (refl, l) in omega (arith, e, short_of)
     ] below grown in
     with_fit m namespace name (insert old key v) short shorter (fit_insert old key v shortest fits fit.0) few h
 
@@ -259,7 +260,7 @@ first_fit m n namespace name key v short shorter shortest fits none is h =
 -- a value of a namespace that has scripts, set or not
 pub next_fit : {U : Type 0} (r : Result U SetFault) (m : Maps) (namespace name key : List ℕ) (v : Kept) (names new : Names) → IsShort namespace → IsShort name → IsShort key → KeptFits v → get m namespace ≡ Some names
     → OnOk r (new ≡ insert names name (insert (unwrap_or (get names name) empty) key v))
-    → (IsErrOf r ValueLimit ↔ ((get (unwrap_or (get names name) empty) key ≡ None) × (1000 ≤ len (unwrap_or (get names name) empty))))
+    → (IsErrOf r ValueLimit ↔ ((get (unwrap_or (get names name) empty) key ≡ None) × (VALUE_LIMIT ≤ len (unwrap_or (get names name) empty))))
     → OnErr r (new ≡ names) → MapsFit (entries m) → MapsFit (entries (insert m namespace new))
 next_fit (Ok u) m namespace name key v names new short shorter shortest fits here ok limit err h =
     let there : names_in m namespace ≡ names = names_are m namespace names here in
@@ -267,6 +268,6 @@ next_fit (Ok u) m namespace name key v names new short shorter shortest fits her
     same_fit (with_value m namespace name key v) (insert m namespace new)
     (ap (insert m namespace) ok ∙ set_in m namespace name key v names (unwrap_or (get names name) empty) there values)
     (set_fit m namespace name key v short shorter shortest fits
-    (λ both. let reached = limit.1 (subst (λ (vs : Values). (get vs key ≡ None) × (1000 ≤ len vs)) values both) in cc reached) h)
+    (λ both. let reached = limit.1 (subst (λ (vs : Values). (get vs key ≡ None) × (VALUE_LIMIT ≤ len vs)) values both) in cc reached) h)
 next_fit (Err e) m namespace name key v names new short shorter shortest fits here ok limit err h =
     same_fit m (insert m namespace new) (ap (insert m namespace) err ∙ put_back m namespace names here) h

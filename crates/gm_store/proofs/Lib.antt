@@ -1,10 +1,11 @@
-pub mod TextMaps
+pub mod Fits
 pub mod Lent
 pub mod MapLemmas
+pub mod OnStage
+pub mod OneReading
+pub mod OneText
 pub mod Plain
 pub mod Reading
 pub mod RoundTrip
-pub mod Fits
-pub mod OneText
-pub mod OneReading
 pub mod SameText
+pub mod TextMaps

@@ -3,6 +3,8 @@ use Rattle.std.specs.Prelude.{◌≡◌, ℕ, List, Option, Some, None, true, fa
 use Rattle.std.specs.Ordering.{eq_by_cmp}
 use Rattle.std.proofs.lemmas.Result.{on_err_weaker}
 use Rattle.std.specs.Prelude.{Result, Ok, Err, OnErr, IsErrOf, IsErrAnd, ◌↔◌, ◌≤◌}
+use Rattle.dom_semantics.specs.declared.kept.Kept.{Kept}
+use Rattle.dom_semantics.specs.declared.kept.TheConstants.{VALUE_LIMIT}
 use Rattle.gm_store.specs.declared.stores.SetFault.{SetFault}
 use Rattle.gm_store.specs.declared.stores.SetFault.TheVariants.{ValueLimit, NoMemory}
 use Rattle.std.specs.Prelude.{length, [], ◌∷◌}
@@ -11,7 +13,6 @@ use Rattle.std.specs.FinMap.{keys, entries, len-entries, len, len-empty, FinMap,
 use Rattle.std.proofs.Common.{ap, sym, ◌∙◌, arith}
 use Rattle.std.proofs.lemmas.Map.Views.{tells_apart}
 use Rattle.base_text.specs.Scalars.{text_cmp}
-use Rattle.gm_store.specs.declared.kept.Kept.{Kept}
 use Rattle.gm_store.specs.Maps.{Values, Names, Maps, names_in, values_in, value_at, with_values, with_value, without_value}
 use Rattle.gm_store.proofs.TextMaps.{texts_total, exact_texts}
 
@@ -73,7 +74,7 @@ set_in m namespace name key v names values h e =
     ap (λ (ns : Names). insert m namespace (insert ns name (insert values key v))) (sym h) ∙ ap (λ (w : Values). with_values m namespace name (insert w key v)) (sym e)
 
 -- the limit isn't reached where nothing is kept
-pub no_limit : {T : Type 0} (r : Result T SetFault) (values : Values) (key : List ℕ) → values ≡ empty → (IsErrOf r ValueLimit → ⊥) → IsErrOf r ValueLimit ↔ ((get values key ≡ None) × (1000 ≤ len values))
+pub no_limit : {T : Type 0} (r : Result T SetFault) (values : Values) (key : List ℕ) → values ≡ empty → (IsErrOf r ValueLimit → ⊥) → IsErrOf r ValueLimit ↔ ((get values key ≡ None) × (VALUE_LIMIT ≤ len values))
 no_limit r values key e none = (λ h. absurd (none h), λ h. let n : len values ≡ 0 = ap len e ∙ len-empty text_cmp Kept in absurd (omega arith))
 
 -- want of memory isn't the limit

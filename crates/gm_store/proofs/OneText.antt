@@ -12,7 +12,7 @@ use Rattle.std.proofs.lemmas.List.Elements.{filter-append}
 use Rattle.base_text.specs.Scalars.{text_cmp}
 use Rattle.serde_json.specs.Data.{Data, number, string, array, object, unsigned, Members, no_members, member, put}
 use Rattle.serde_json.specs.View.{items_of}
-use Rattle.gm_store.specs.declared.kept.Kept.{Kept}
+use Rattle.dom_semantics.specs.declared.kept.Kept.{Kept}
 use Rattle.gm_store.specs.Maps.{Values, Names, Maps}
 use Rattle.gm_store.specs.Written.{kept_data, members_of, Script, scripts_of, keeps_some, script_data, stored_data}
 use Rattle.gm_store.specs.WrittenModel.{values_members, script_model, names_model, scripts_model, stored_model}

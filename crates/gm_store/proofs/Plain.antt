@@ -8,8 +8,8 @@ use Rattle.std.proofs.Common.{arith, encode_utf8_all}
 use Rattle.serde_json.specs.Data.{Data, Members, no_members, member, put, depth, items_depth, members_depth}
 use Rattle.serde_json.specs.View.{items_of}
 use Rattle.serde_json.specs.Written.{has_float, items_have_float, members_have_float}
-use Rattle.gm_store.specs.declared.kept.Kept.{Kept}
-use Rattle.gm_store.specs.declared.kept.Kept.TheVariants.{Str, Bool as Truth, Number}
+use Rattle.dom_semantics.specs.declared.kept.Kept.{Kept}
+use Rattle.dom_semantics.specs.declared.kept.Kept.TheVariants.{Str, Bool as Truth, Number}
 use Rattle.gm_store.specs.Maps.{Values, Names, Maps}
 use Rattle.gm_store.specs.Written.{kept_data}
 use Rattle.gm_store.specs.WrittenModel.{values_members, script_model, names_model, scripts_model, stored_model}

@@ -12,8 +12,8 @@ use Rattle.serde_json.specs.Events.{members_len}
 use Rattle.serde_json.specs.View.{view, items_view, members_view}
 use Rattle.serde_json.specs.declared.value.Value.{Value}
 use Rattle.serde_json.proofs.Views.{members_len-members_view}
-use Rattle.gm_store.specs.declared.kept.Kept.{Kept}
-use Rattle.gm_store.specs.declared.kept.Kept.TheVariants.{Str, Bool as Truth, Number}
+use Rattle.dom_semantics.specs.declared.kept.Kept.{Kept}
+use Rattle.dom_semantics.specs.declared.kept.Kept.TheVariants.{Str, Bool as Truth, Number}
 use Rattle.gm_store.specs.Maps.{Values, Names, Maps, names_in, with_values}
 use Rattle.gm_store.specs.Limits.{IsShort}
 use Rattle.gm_store.specs.Stored.{IsKept, PutsMembers, HasValues, member_count, AddsScript, AddsScripts}

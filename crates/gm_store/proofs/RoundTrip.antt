@@ -13,8 +13,9 @@ use Rattle.serde_json.specs.Data.{Data, Members, no_members, member, put}
 use Rattle.serde_json.specs.Find.{of_integer}
 use Rattle.serde_json.specs.Events.{members_len}
 use Rattle.serde_json.specs.View.{items_of}
-use Rattle.gm_store.specs.declared.kept.Kept.{Kept}
-use Rattle.gm_store.specs.declared.kept.Kept.TheVariants.{Str, Bool as Truth, Number}
+use Rattle.dom_semantics.specs.declared.kept.Kept.{Kept}
+use Rattle.dom_semantics.specs.declared.kept.Kept.TheVariants.{Str, Bool as Truth, Number}
+use Rattle.dom_semantics.specs.declared.kept.TheConstants.{VALUE_LIMIT}
 use Rattle.gm_store.specs.Maps.{Values, Names, Maps, names_in, values_in, with_values}
 use Rattle.gm_store.specs.Limits.{IsShort, KeptFits, ValuesFit, NamesFit, MapsFit}
 use Rattle.gm_store.specs.Stored.{IsKept, PutsMembers, AreValues, IsScript, AddsScripts, IsStored}
@@ -133,7 +134,7 @@ ready_first [] = tt
 ready_first (e ∷ es) = (tt, tt, ready_first es)
 
 -- the object of a script's values stands for them
-pub values_back : (vs : Values) → ValuesFit (entries vs) → len vs ≤ 1000 → AreValues (values_members (entries vs) no_members) vs
+pub values_back : (vs : Values) → ValuesFit (entries vs) → len vs ≤ VALUE_LIMIT → AreValues (values_members (entries vs) no_members) vs
 values_back vs fit few =
     let sorted = holds _ (entries_sorted vs) in
     let ready = ready_first (entries vs) in
@@ -141,7 +142,7 @@ values_back vs fit few =
     (omega (arith, count, len-entries vs, few), subst (PutsMembers (values_members (entries vs) no_members) empty) (made_of vs) (values_put (entries vs) [] no_members sorted fit ready refl))
 
 -- and so the object of the script
-pub script_back : (namespace name : List ℕ) (vs : Values) → IsShort namespace → IsShort name → ValuesFit (entries vs) → len vs ≤ 1000 → IsScript (script_model namespace name vs) namespace name vs
+pub script_back : (namespace name : List ℕ) (vs : Values) → IsShort namespace → IsShort name → ValuesFit (entries vs) → len vs ≤ VALUE_LIMIT → IsScript (script_model namespace name vs) namespace name vs
 script_back namespace name vs short shorter fit few = record {
   count = refl;
   namespace_is = refl;
@@ -159,7 +160,7 @@ same_key k = (eq_by_cmp_equiv texts_total).refl k
 get_same : {X : Type 0} (m : FinMap text_cmp X) (k : List ℕ) (v : X) → get (insert m k v) k ≡ Some v
 get_same m k v = get-insert texts_total m k v k ∙ ap (λ (b : Bool). cond b (Some v) (get m k)) (same_key k)
 
-get_other : {X : Type 0} (m : FinMap text_cmp X) (k : List ℕ) (v : X) (q : List ℕ) → eq_by_cmp text_cmp q k ≡ false → get (insert m k v) q ≡ get m q
+pub get_other : {X : Type 0} (m : FinMap text_cmp X) (k : List ℕ) (v : X) (q : List ℕ) → eq_by_cmp text_cmp q k ≡ false → get (insert m k v) q ≡ get m q
 get_other m k v q apart = get-insert texts_total m k v q ∙ ap (λ (b : Bool). cond b (Some v) (get m q)) apart
 
 apart_later : (x y : List ℕ) → text_cmp x y ≡ Less → eq_by_cmp text_cmp y x ≡ false
@@ -220,7 +221,7 @@ no_values_there old namespace name =
       | None ↦ λ h. refl
     ]
 
-value_with : (old : Maps) (namespace name : List ℕ) (vs : Values) (q : List ℕ) → values_in (with_values old namespace name vs) namespace q ≡ cond (eq_by_cmp text_cmp q name) vs (values_in old namespace q)
+pub value_with : (old : Maps) (namespace name : List ℕ) (vs : Values) (q : List ℕ) → values_in (with_values old namespace name vs) namespace q ≡ cond (eq_by_cmp text_cmp q name) vs (values_in old namespace q)
 value_with old namespace name vs q =
     ap (λ (ns : Names). unwrap_or (get ns q) empty) (names_with old namespace name vs)
     ∙ ap (λ (o : Option Values). unwrap_or o empty) (get-insert texts_total (names_in old namespace) name vs q)

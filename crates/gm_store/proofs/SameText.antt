@@ -10,7 +10,7 @@ use Rattle.base_text.specs.Scalars.{text_cmp}
 use Rattle.serde_json.specs.Data.{number, array, object, unsigned, no_members, member}
 use Rattle.serde_json.specs.View.{items_of}
 use Rattle.serde_json.specs.Written.{compact_text}
-use Rattle.gm_store.specs.declared.kept.Kept.{Kept}
+use Rattle.dom_semantics.specs.declared.kept.Kept.{Kept}
 use Rattle.gm_store.specs.Maps.{Values, Names, Maps, names_in, values_in, KeepTheSame}
 use Rattle.gm_store.specs.Written.{Script, scripts_of, keeps_some, script_data, stored_data, stored_text}
 use Rattle.gm_store.proofs.OneText.{keys_rise, scripts_in, all_scripts}

@@ -4,9 +4,9 @@ use Rattle.std.specs.FinMap.{entries, len}
 use Rattle.base_text.specs.Scalars.{utf8_len}
 use Rattle.base_text.specs.declared.number.TheConstants.{MAX_SAFE_INTEGER}
 use Rattle.base_text.specs.declared.text.TheConstants.{TEXT_LIMIT}
-use Rattle.gm_store.specs.declared.kept.Kept.{Kept}
-use Rattle.gm_store.specs.declared.kept.Kept.TheVariants.{Str, Bool as Truth, Number}
-use Rattle.gm_store.specs.declared.kept.TheConstants.{VALUE_LIMIT}
+use Rattle.dom_semantics.specs.declared.kept.Kept.{Kept}
+use Rattle.dom_semantics.specs.declared.kept.Kept.TheVariants.{Str, Bool as Truth, Number}
+use Rattle.dom_semantics.specs.declared.kept.TheConstants.{VALUE_LIMIT}
 use Rattle.gm_store.specs.Maps.{Values, Names}
 
 -- a text within the limit of texts

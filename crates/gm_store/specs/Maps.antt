@@ -2,7 +2,7 @@
 use Rattle.std.specs.Prelude.{◌≡◌, ℕ, List, Option, unwrap_or, if◌then◌else◌}
 use Rattle.std.specs.FinMap.{FinMap, empty, get, insert, remove, contains_key}
 use Rattle.base_text.specs.Scalars.{text_cmp}
-use Rattle.gm_store.specs.declared.kept.Kept.{Kept}
+use Rattle.dom_semantics.specs.declared.kept.Kept.{Kept}
 
 -- the values of one script, by their names
 abbrev pub Values : Type 0

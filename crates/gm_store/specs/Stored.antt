@@ -7,9 +7,9 @@ use Rattle.serde_json.specs.Data.{Num, Data, null, boolean, number, string, arra
 use Rattle.serde_json.specs.Find.{get, as_integer}
 use Rattle.serde_json.specs.Events.{members_len}
 use Rattle.serde_json.specs.Read.{read}
-use Rattle.gm_store.specs.declared.kept.Kept.{Kept}
-use Rattle.gm_store.specs.declared.kept.Kept.TheVariants.{Str, Bool as Truth, Number}
-use Rattle.gm_store.specs.declared.kept.TheConstants.{VALUE_LIMIT}
+use Rattle.dom_semantics.specs.declared.kept.Kept.{Kept}
+use Rattle.dom_semantics.specs.declared.kept.Kept.TheVariants.{Str, Bool as Truth, Number}
+use Rattle.dom_semantics.specs.declared.kept.TheConstants.{VALUE_LIMIT}
 use Rattle.gm_store.specs.declared.stores.StoreKind.{StoreKind}
 use Rattle.gm_store.specs.declared.stores.StoreKind.TheVariants.{NotJson, BadShape}
 use Rattle.gm_store.specs.Limits.{IsShort, IsSafe}

@@ -7,8 +7,8 @@ use Rattle.serde_json.specs.Data.{Data, boolean, number, string, array, object, 
 use Rattle.serde_json.specs.Find.{of_integer}
 use Rattle.serde_json.specs.View.{items_of}
 use Rattle.serde_json.specs.Written.{compact_text}
-use Rattle.gm_store.specs.declared.kept.Kept.{Kept}
-use Rattle.gm_store.specs.declared.kept.Kept.TheVariants.{Str, Bool as Truth, Number}
+use Rattle.dom_semantics.specs.declared.kept.Kept.{Kept}
+use Rattle.dom_semantics.specs.declared.kept.Kept.TheVariants.{Str, Bool as Truth, Number}
 use Rattle.gm_store.specs.Maps.{Values, Names, Maps, KeepTheSame}
 use Rattle.gm_store.specs.Stored.{Loads}
 

@@ -4,7 +4,7 @@ use Rattle.std.specs.FinMap.{entries, len}
 use Rattle.serde_json.specs.Data.{Data, number, string, array, object, unsigned, Members, no_members, member, put}
 use Rattle.serde_json.specs.View.{view, items_of}
 use Rattle.serde_json.specs.declared.value.Value.{Value}
-use Rattle.gm_store.specs.declared.kept.Kept.{Kept}
+use Rattle.dom_semantics.specs.declared.kept.Kept.{Kept}
 use Rattle.gm_store.specs.Maps.{Values, Names, Maps}
 use Rattle.gm_store.specs.Written.{kept_data}
 

@@ -2,7 +2,6 @@
 //! of another, and the text that the maps are kept as.
 #![tactic(auto)]
 
-mod kept;
 mod laws;
 mod load;
 mod stores;
@@ -11,9 +10,9 @@ mod tests;
 mod text_map;
 mod written;
 
-pub use kept::{Kept, VALUE_LIMIT};
+pub use dom_semantics::{Kept, VALUE_LIMIT};
 pub use laws::{
-    stored_texts_are_read_one_way, stores_that_keep_the_same_have_one_text,
-    written_texts_load_as_the_same_maps,
+    maps_are_kept_as_on_the_stage, stored_texts_are_read_one_way,
+    stores_that_keep_the_same_have_one_text, written_texts_load_as_the_same_maps,
 };
 pub use stores::{SetFault, StoreFault, StoreKind, Stores};

@@ -1,19 +1,19 @@
 //! Reads the stored form out of a JSON value.
 ghost use Rattle.base_text.specs.declared.text.TheConstants.{TEXT_LIMIT};
+ghost use Rattle.dom_semantics.specs.declared.kept.Kept.{Kept};
 ghost use Rattle.gm_store.specs.Limits.{IsShort};
 ghost use Rattle.gm_store.specs.Maps.{Values, Maps, names_in, with_values};
 ghost use Rattle.gm_store.specs.Stored.{IsKept, AreValues, HasValues, AddsScript, AddsScripts, IsStored};
-ghost use Rattle.gm_store.specs.declared.kept.Kept.{Kept};
 ghost use Rattle.serde_json.specs.Data.{string, number, unsigned};
 ghost use Rattle.serde_json.specs.Find.{get};
 ghost use Rattle.serde_json.specs.View.{view, items_view, members_view};
 ghost use Rattle.std.specs.FinMap as fin;
 ghost use Rattle.std.specs.Prelude.{◌≡◌, ◌↔◌, IsTrue, ◌<◌, ℕ, List, Some, true, false, length, OnOk, IfOk, IsErrOf, encode_utf8_all};
 
-use crate::kept::{Kept, VALUE_LIMIT};
 use crate::stores::{Names, Values};
 use crate::text_map::TextMap;
 use base_text::{MAX_SAFE_INTEGER, NoMemory, Text, TextFault};
+use dom_semantics::{Kept, VALUE_LIMIT};
 use serde_json::{Map, Value};
 use std::alloc::Global;
 

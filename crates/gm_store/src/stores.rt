@@ -10,11 +10,11 @@ ghost use Rattle.std.specs.List.Sorted.{IsStrictlySortedBy};
 ghost use Rattle.std.specs.Option.{option_copied};
 ghost use Rattle.std.specs.Prelude.{◌≡◌, ◌≤◌, ◌↔◌, is_some, unwrap_or, OnOk, OnErr, IfOk, IsErrOf};
 
-use crate::kept::{Kept, VALUE_LIMIT};
 use crate::load::{Misread, read_stored};
 use crate::text_map::TextMap;
 use crate::written::stored_value;
 use base_text::{Mem, NoMemory, OrMemory, Text};
+use dom_semantics::{Kept, VALUE_LIMIT};
 use serde_json::Value;
 use std::alloc::Global;
 use std::marker::Model;
@@ -71,7 +71,7 @@ impl Model for Stores {
     ghost use Rattle.std.specs.FinMap as map;
     ghost use Rattle.gm_store.specs.Maps.{Maps};
     ghost use Rattle.gm_store.specs.Limits.{MapsFit};
-    ghost use Rattle.gm_store.specs.contracts.kept.Kept as kept;
+    ghost use Rattle.dom_semantics.specs.contracts.kept.Kept as kept;
 
     ghost Value = { Maps };
 

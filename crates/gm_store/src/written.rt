@@ -6,10 +6,10 @@ ghost use Rattle.serde_json.specs.View.{view};
 ghost use Rattle.std.specs.FinMap as fin;
 ghost use Rattle.std.specs.Prelude.{◌≡◌, ◌++◌, OnOk, IfOk};
 
-use crate::kept::Kept;
 use crate::stores::{Names, Values};
 use crate::text_map::TextMap;
 use base_text::{Mem, Text};
+use dom_semantics::Kept;
 use serde_json::{Map, Value, put};
 use std::alloc::Global;
 

@@ -10,4 +10,4 @@ returns c =
     let none = at_drop_all (λ xs. listeners_of xs c.args.owner) c.args.registered.now c.loop-a.a-index c.loop-a-test.false in
     let counted = c.loop-a.invariant.0 in
     let total : c.loop-a.count ≡ listeners_of c.args.registered.now c.args.owner = omega arith in
-    ap (λ n. nat_lt n 10000) total
+    ap (λ n. nat_lt n LISTENER_LIMIT) total
