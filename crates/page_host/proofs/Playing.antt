@@ -1,16 +1,23 @@
 -- What was read is what a run is given, and each actor of the run does what its own machine does.
 use Rattle.base_text.specs.declared.text.TheConstants.{TEXT_LIMIT}
-use Rattle.std.proofs.Common.{◌≡◌, refl, inl, ap, ℕ, ◌+◌, ◌≤◌, Bool, true, false, List, [], ◌∷◌, ◌++◌, length, arith, codes, nat_eq, if◌then◌else◌}
+use Rattle.base_text.specs.Scalars.{utf8_len}
+use Rattle.std.proofs.Common.{◌≡◌, ◌∙◌, sym, refl, inl, ap, map, ℕ, ◌+◌, ◌≤◌, Bool, true, false, List, [], ◌∷◌, ◌++◌, length, arith, codes, nat_eq, if◌then◌else◌}
+use Rattle.std.specs.Prelude.{Option}
 use Rattle.std.specs.List.{flat_map}
 use Rattle.std.proofs.lemmas.Bool.Decides.{nat_tests}
 use Rattle.std.proofs.lemmas.List.{length-append, length-map}
-use Rattle.door.specs.declared.limits.TheConstants.{USERSCRIPT_LIMIT}
+use Rattle.outside.specs.Contents.{AreDistinct}
+use Rattle.door.specs.declared.limits.TheConstants.{ADDRESS_LIMIT, USERSCRIPT_LIMIT}
 use Rattle.door.specs.declared.marks.Mark.{Mark}
 use Rattle.door.specs.declared.marks.Entry.TheVariants.{Script}
 use Rattle.door.specs.declared.requests.Request.{Request}
 use Rattle.door.specs.declared.values.Actor.{Actor}
 use Rattle.door.specs.declared.zones.Zone.{Zone}
 use Rattle.door.specs.declared.zones.Zone.TheVariants.{Host, Page as PageZone, PlainScript, XrayScript}
+use Rattle.dom_semantics.specs.Grants.{no_grants}
+use Rattle.dom_semantics.specs.Stage.{IsReading}
+use Rattle.dom_semantics.specs.StageOf.{stage_of as stage_of_run}
+use Rattle.dom_semantics.specs.declared.selectors.Compound.{Compound}
 use Rattle.small_forms.specs.declared.limits.TheConstants.{SMALL_PAGE_LIMIT}
 use Rattle.small_forms.specs.declared.page.Page.{Page}
 use Rattle.small_forms.specs.declared.page.PageScript.{PageScript}
@@ -23,6 +30,9 @@ use Rattle.js_semantics.specs.Entries.{LEVELS, beginning, enters}
 use Rattle.js_semantics.specs.Intrinsics.{Setup}
 use Rattle.js_semantics.specs.Solo.{Stuck}
 use Rattle.solo_model.specs.Closed.{is_plain}
+use Rattle.solo_model.specs.Given.{setting_of}
+use Rattle.solo_model.specs.Right as journal
+use Rattle.solo_model.specs.Stage.{stage_of}
 use Rattle.solo_model.specs.Lawful.{IsLawful, Piece, tasks_of}
 use Rattle.solo_model.specs.Solo.{Deed, IsSoloFrom, Show, deeds_of, shows_of}
 use Rattle.solo_model.specs.Things.{userscript}
@@ -34,12 +44,20 @@ use Rattle.js_semantics.specs.Entries.{Spells}
 use Rattle.small_scripts.specs.Trees.{body_of}
 use Rattle.small_meaning.specs.Rows.{Fresh, Reads, beginning as small_beginning, enters as small_enters}
 use Rattle.small_meaning.specs.Shows.{AreFit, FitsEntry, MayRun, entries_in}
+use Rattle.small_meaning.proofs.Texts.{four_bytes}
 use Rattle.small_meaning.proofs.Shown.{All, OfScript, entries_few, shown_fit, tasks_length, turns_enter}
 use Rattle.small_eval.specs.Idle.{AreIdle}
-use Rattle.small_eval.specs.Pieces.{after_blocks, after_script, block_writes, head_writes, pieces_from}
+use Rattle.small_eval.specs.Pieces.{after_blocks, after_script, block_writes, head_writes, pieces_from, pieces_of}
 use Rattle.small_eval.specs.Turns.{AreUserscripts, file_texts}
-use Rattle.page_host.specs.Run.{AllActsAreSolo, input_of, log_grant, no_grants, setups_of}
-use Rattle.page_host.specs.Scripts.{AreScripts, texts_in, userscripts_in}
+use Rattle.small_runs.specs.SmallGiven.{AllActsAreSolo, AreUserscripts as AreForms, IsSmall, given_of, input_of, log_grant, small_setups}
+use Rattle.page_host.specs.Address.{IsPlainAddress}
+use Rattle.page_host.specs.Loaded.{IsPlayed}
+use Rattle.page_host.specs.Scripts.{AreScripts, names_in, userscripts_in}
+use Rattle.page_host.specs.declared.play.Played.{Played}
+
+-- their whole texts
+abbrev pub texts_in : List Userscript → List (List ℕ)
+texts_in scripts = map (λ (script : Userscript). script.text) scripts
 
 -- each userscript is read as its lines
 pub userscripts_are : (scripts : List ScriptFile) → AreScripts (userscripts_in scripts) → AreUserscripts scripts
@@ -55,7 +73,7 @@ texts_few : (scripts : List Userscript) (most : ℕ) → length scripts ≤ most
 texts_few scripts most h = rw (length-map scripts (λ (script : Userscript). script.text)) h
 
 -- a userscript sees the page through Xrays
-pub userscript_zone : (address : List ℕ) (n : ℕ) → (setups_of address (userscript n)).zone ≡ XrayScript
+pub userscript_zone : (address : List ℕ) (n : ℕ) → (small_setups address (userscript n)).zone ≡ XrayScript
 userscript_zone address n =
     let other : nat_eq (n + 2) 1 ≡ false = grind (arith, nat_tests) in
     rw other refl
@@ -69,7 +87,7 @@ among_none true s t h k = h
 among_none false s t h k = k
 
 -- no script runs among the page's own
-apart : (address : List ℕ) → AreApart (setups_of address)
+apart : (address : List ℕ) → AreApart (small_setups address)
 unfolding among
 apart address j = among_none (nat_eq j.0 1) (record { zone = PageZone; grants = no_grants; address = address }) (record { zone = XrayScript; grants = log_grant; address = address }) refl refl
 
@@ -135,17 +153,17 @@ unfolding among
 may_run true s t h k = h
 may_run false s t h k = k
 
-all_may_run : (address : List ℕ) (i : Actor) → MayRun (setups_of address i).zone (setups_of address i).grants
+all_may_run : (address : List ℕ) (i : Actor) → MayRun (small_setups address i).zone (small_setups address i).grants
 unfolding among
 all_may_run address i = may_run (nat_eq i.0 1) (record { zone = PageZone; grants = no_grants; address = address }) (record { zone = XrayScript; grants = log_grant; address = address }) tt refl
 
 -- who waits in the end has done what its own machine does
 pub all_solo : SmallLaws → (address bytes : List ℕ) (page : Page) (scripts : List Userscript) (marks : List Mark) → IsPage bytes page → AreScripts scripts → length scripts ≤ USERSCRIPT_LIMIT
-    → IsLawful (input_of page (texts_in scripts)) marks → IsGenuine marks → AreIdle (setups_of address) marks → AllActsAreSolo address marks
+    → IsLawful (input_of (pieces_of page) scripts) marks → IsGenuine marks → AreIdle (small_setups address) marks → AllActsAreSolo address marks
 all_solo laws address bytes page scripts marks is_page are_scripts few lawful genuine idle = λ i other.
-    let setup = setups_of address i in
+    let setup = small_setups address i in
     let P : List ℕ → Type 0 = λ text. FitsEntry setup.zone (Script text) in
-    let input = input_of page (texts_in scripts) in
+    let input = input_of (pieces_of page) scripts in
     let pieces = pieces_each P (after_blocks page.blocks) (head_writes page.title ++ block_writes page.blocks) (texts_of_scripts page.scripts) (each P (fits laws setup.zone) (texts_of_scripts page.scripts) (page_short bytes page is_page)) in
     let starts = each P (fits laws setup.zone) (texts_in scripts) (scripts_short scripts are_scripts) in
     let entries = turns_enter P input [] (tasks_of input) marks (record { pieces = pieces; starts = starts }) lawful in
@@ -155,4 +173,40 @@ all_solo laws address bytes page scripts marks is_page are_scripts few lawful ge
     let are_few : entries_in (shows_of (view_of i marks)) ≤ 1000 = omega (arith, shown_few, entries.few, tasks_length input, pieces_are, texts, is_page.few, texts_few scripts USERSCRIPT_LIMIT few) in
     let fit = shown_fit setup.zone i at_start [] marks (inl refl) genuine entries.texts in
     let small = reaches-solo (small_enters setup) small_beginning LEVELS Fresh (λ m given. Stuck) (view_of i marks) (idle i other).reaches in
-    solo-acts (setups_of address) i marks (apart address) genuine (laws.solos setup (shows_of (view_of i marks)) (deeds_of (view_of i marks)) (all_may_run address i) fit are_few small)
+    solo-acts (small_setups address) i marks (apart address) genuine (laws.solos setup (shows_of (view_of i marks)) (deeds_of (view_of i marks)) (all_may_run address i) fit are_few small)
+
+-- ---- by the whole definitions
+
+-- how selectors are read
+abbrev pub Reader : Type 0
+Reader = List ℕ → Option (List (List Compound))
+
+-- what the laws that lead there say
+pub record WholeLaws : Type 0 where
+  pub reading : (read : Reader) × IsReading read
+  pub right : (address bytes : List ℕ) (page : Page) (scripts : List Userscript) (read : Reader) (marks : List Mark) → IsSmall address scripts read → IsPage bytes page
+      → IsLawful (input_of (pieces_of page) scripts) marks → IsGenuine marks → AllActsAreSolo address marks → journal.IsRight (given_of address (pieces_of page) scripts read) marks
+  pub document : (address bytes : List ℕ) (page : Page) (scripts : List Userscript) (read : Reader) (marks : List Mark) → IsSmall address scripts read → IsPage bytes page
+      → IsLawful (input_of (pieces_of page) scripts) marks → IsGenuine marks → AllActsAreSolo address marks
+      → (stage_of_run (setting_of (given_of address (pieces_of page) scripts read) marks) marks).nodes ≡ (stage_of marks).nodes
+
+forms_are : (scripts : List Userscript) → AreScripts scripts → AreForms scripts
+forms_are [] h = tt
+forms_are (script ∷ scripts) h = (h.0, forms_are scripts h.1)
+
+pub address_short : (address : List ℕ) → IsPlainAddress address → utf8_len address ≤ ADDRESS_LIMIT
+address_short address plain = omega (arith, plain.short, four_bytes address)
+
+-- so what was played is right by the whole definitions
+pub all_played : WholeLaws → (address bytes : List ℕ) (page : Page) (scripts : List Userscript) (played : Played) → utf8_len address ≤ ADDRESS_LIMIT → IsPage bytes page → AreScripts scripts
+    → AreDistinct (names_in scripts) → length scripts ≤ USERSCRIPT_LIMIT → IsLawful (input_of (pieces_of page) scripts) played.journal.marks → IsGenuine played.journal.marks
+    → AllActsAreSolo address played.journal.marks → played.tree ≡ (stage_of played.journal.marks).nodes → IsPlayed address page scripts played
+all_played laws address bytes page scripts played short is_page are_scripts distinct few lawful genuine acts document =
+    let marks = played.journal.marks in
+    let read = laws.reading.0 in
+    let is_small : IsSmall address scripts read = record { reading = laws.reading.1; short = short; few = few; forms = forms_are scripts are_scripts; names = distinct } in
+    record {
+      read_selector = read;
+      right = laws.right address bytes page scripts read marks is_small is_page lawful genuine acts;
+      document = document ∙ sym (laws.document address bytes page scripts read marks is_small is_page lawful genuine acts);
+    }

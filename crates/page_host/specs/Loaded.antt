@@ -3,18 +3,24 @@ use Rattle.std.specs.Prelude.{◌≡◌, ◌≤◌, ℕ, IsTrue, List, codes, le
 use Rattle.std.specs.List.{list_all}
 use Rattle.outside.specs.Contents.{AreDistinct, Files, content}
 use Rattle.door.specs.declared.limits.TheConstants.{USERSCRIPT_LIMIT}
+use Rattle.dom_semantics.specs.StageOf.{stage_of}
+use Rattle.dom_semantics.specs.declared.selectors.Compound.{Compound}
 use Rattle.small_forms.specs.Pages.{IsPage}
-use Rattle.solo_model.specs.Lawful.{IsLawful}
-use Rattle.solo_model.specs.Truth.{IsGenuine}
+use Rattle.small_eval.specs.Pieces.{pieces_of}
+use Rattle.small_forms.specs.declared.page.Page.{Page}
+use Rattle.small_forms.specs.declared.userscript.Userscript.{Userscript}
+use Rattle.small_runs.specs.SmallGiven.{given_of}
+use Rattle.solo_model.specs.Given.{Given, setting_of}
+use Rattle.solo_model.specs.Right as journal
 use Rattle.page_host.specs.Faults.{IsRefusal, page_missing}
 use Rattle.page_host.specs.Names.{AreInOrder, IsScriptNames, is_userscript}
 use Rattle.page_host.specs.Printed.{document_of}
 use Rattle.page_host.specs.Report.{report_of}
-use Rattle.page_host.specs.Run.{AllActsAreSolo, input_of}
-use Rattle.page_host.specs.Scripts.{AreHeld, AreScripts, files_in, names_in, texts_in, userscripts_in}
+use Rattle.page_host.specs.Scripts.{AreHeld, AreScripts, files_in, names_in, userscripts_in}
 use Rattle.page_host.specs.Steps.{Step, IsFirstFault}
 use Rattle.page_host.specs.declared.faults.HostFault.{HostFault}
 use Rattle.page_host.specs.declared.faults.HostFault.TheVariants.{Usage, PageRefused, ReadFault, WriteFault, NoMemory, TooManyScripts, NotYet}
+use Rattle.page_host.specs.declared.play.Played.{Played}
 use Rattle.page_host.specs.declared.run.Loaded.{Loaded}
 use Rattle.page_host.specs.declared.run.RunOutput.{RunOutput}
 
@@ -56,9 +62,19 @@ pub record IsLoaded (files : Files) (loaded : Loaded) : Type 0 where
   pub paged : (bytes : List ℕ) × (content files (codes "page.html") ≡ Some bytes) × IsPage bytes loaded.page
   pub held : AreHeld files (files_in loaded.scripts.items) (userscripts_in loaded.scripts.items)
 
+-- what was played at this address is right, and the tree is the document at its end
+pub record IsPlayed (address : List ℕ) (page : Page) (scripts : List Userscript) (played : Played) : Type 0 where
+  pub read_selector : List ℕ → Option (List (List Compound))
+  pub right : journal.IsRight (given_of address (pieces_of page) scripts read_selector) played.journal.marks
+  pub document : played.tree ≡ (stage_of (setting_of (given_of address (pieces_of page) scripts read_selector) played.journal.marks) played.journal.marks).nodes
+
+-- what a run at this address is given of it
+abbrev pub run_of_loaded : List ℕ → Loaded → (List ℕ → Option (List (List Compound))) → Given
+run_of_loaded address loaded read = given_of address (pieces_of loaded.page) (userscripts_in loaded.scripts.items) read
+
 -- what is output of it is right
 pub record IsOutput (address : List ℕ) (loaded : Loaded) (output : RunOutput) : Type 0 where
-  pub lawful : IsLawful (input_of loaded.page (texts_in (userscripts_in loaded.scripts.items))) output.journal.marks
-  pub genuine : IsGenuine output.journal.marks
-  pub acts : (other : List ℕ) → AllActsAreSolo other output.journal.marks
-  pub reported : output.report.items ≡ report_of address (files_in loaded.scripts.items) (document_of output.journal.marks) output.journal.marks
+  pub read_selector : List ℕ → Option (List (List Compound))
+  pub right : journal.IsRight (run_of_loaded address loaded read_selector) output.journal.marks
+  pub reported : output.report.items ≡
+      report_of address (files_in loaded.scripts.items) (document_of (run_of_loaded address loaded read_selector) output.journal.marks) output.journal.marks

@@ -2,8 +2,9 @@
 use Rattle.std.specs.Prelude.{ℕ, List, encode_utf8_all}
 use Rattle.door.specs.declared.marks.Mark.{Mark}
 use Rattle.page_text.specs.Printed.{printed}
-use Rattle.solo_model.specs.Stage.{stage_of}
+use Rattle.dom_semantics.specs.StageOf.{stage_of}
+use Rattle.solo_model.specs.Given.{Given, setting_of}
 
--- the document at a journal's end, in UTF-8
-abbrev pub document_of : List Mark → List ℕ
-document_of marks = encode_utf8_all (printed (stage_of marks).nodes 0)
+-- the document at the end of a journal of a run that is given this, in UTF-8
+abbrev pub document_of : Given → List Mark → List ℕ
+document_of given marks = encode_utf8_all (printed (stage_of (setting_of given marks) marks).nodes 0)

@@ -1,27 +1,25 @@
 -- What a run of the form that is built makes; this project's own.
-use Rattle.std.specs.Prelude.{◌≡◌, ◌≢◌, ◌≤◌, ◌⊎◌, ℕ, true, false, List, [], codes, length, nat_eq, if◌then◌else◌, Option, Some, None, IfSome}
+use Rattle.std.specs.Prelude.{◌≡◌, ◌≤◌, ◌⊎◌, ℕ, false, List, [], codes, length, Option, Some, None, IfSome}
 use Rattle.outside.specs.Contents.{Files, content}
-use Rattle.door.specs.declared.grants.GrantSet.{GrantSet}
 use Rattle.door.specs.declared.limits.TheConstants.{USERSCRIPT_LIMIT}
 use Rattle.door.specs.declared.marks.Mark.{Mark}
-use Rattle.door.specs.declared.values.Actor.{Actor}
-use Rattle.door.specs.declared.zones.Zone.TheVariants.{Page as PageZone, XrayScript}
-use Rattle.dom_semantics.specs.Forest.{the_host}
+use Rattle.dom_semantics.specs.declared.selectors.Compound.{Compound}
 use Rattle.small_forms.specs.Pages.{IsPage}
 use Rattle.small_forms.specs.declared.page.Page.{Page}
 use Rattle.small_forms.specs.declared.userscript.Userscript.{Userscript}
-use Rattle.solo_model.specs.Closed.{ActsAreSolo, ActsAreSoloSoFar, Setups}
-use Rattle.solo_model.specs.Lawful.{Input, IsLawful, IsLawfulSoFar}
-use Rattle.solo_model.specs.Truth.{IsGenuine}
+use Rattle.small_eval.specs.Pieces.{pieces_of}
+use Rattle.small_runs.specs.SmallGiven.{given_of}
+use Rattle.solo_model.specs.Given as run
+use Rattle.solo_model.specs.Right as journal
 use Rattle.page_host.specs.Address.{IsPlainAddress}
 use Rattle.page_host.specs.Names.{IsScriptNames}
-use Rattle.small_eval.specs.Pieces.{pieces_of}
 use Rattle.page_host.specs.Printed.{document_of}
 use Rattle.page_host.specs.Report.{report_of}
-use Rattle.page_host.specs.Scripts.{AreRead, texts_in}
+use Rattle.page_host.specs.Scripts.{AreRead}
 use Rattle.page_host.specs.Words.{IsRunCommand}
 
--- The address, the page and the userscripts that words and files give.
+-- The address, the page and the userscripts that words and files give, and how selectors are read: rightly, where what the run is given is in
+-- order.
 pub record Given (words : List (List ℕ)) (files : Files) : Type 0 where
   pub address : List ℕ
   pub bytes : List ℕ
@@ -36,37 +34,19 @@ pub record Given (words : List (List ℕ)) (files : Files) : Type 0 where
   pub paged : content files (codes "page.html") ≡ Some bytes
   pub reads : IsPage bytes page
   pub scripted : AreRead files names scripts
+  pub read_selector : List ℕ → Option (List (List Compound))
 
--- the pieces of a page and the texts of the userscripts; all bytes of these forms are ASCII, so they are the scalars of their texts
-abbrev pub input_of : Page → List (List ℕ) → Input
-input_of page texts = record { pieces = pieces_of page; starts = texts }
+-- what the run is given of it; all bytes of these forms are ASCII, so they are the scalars of their texts
+abbrev pub run_of : {words : List (List ℕ)} {files : Files} → Given words files → run.Given
+run_of given = given_of given.address (pieces_of given.page) given.scripts given.read_selector
 
--- no grant
-abbrev pub no_grants : GrantSet
-no_grants = record { no_grant = false; unsafe_window = false; get_value = false; set_value = false; delete_value = false; list_values = false; log = false }
-
--- the grant of each userscript of the form: `GM_log` alone
-abbrev pub log_grant : GrantSet
-log_grant = record no_grants { log = true }
-
--- the page is actor 1, and every other that runs is a userscript, which sees the page through Xrays
-abbrev pub setups_of : List ℕ → Setups
-setups_of address i =
-    if nat_eq i.0 1 then record { zone = PageZone; grants = no_grants; address = address } else record { zone = XrayScript; grants = log_grant; address = address }
-
--- every actor but the host does what its own machine does by itself
-abbrev pub AllActsAreSolo : List ℕ → List Mark → Type 0
-AllActsAreSolo address marks = (i : Actor) → i ≢ the_host → ActsAreSolo (setups_of address) i marks
-
--- The journal of these marks and the report of these bytes are right for these words and files: the journal has the turns of the run,
--- its answers are the true ones, the page and each userscript do what their own machines do by themselves, and the report is that of the
+-- The journal of these marks and the report of these bytes are right for these words and files: what the run is given is in order, the journal
+-- is lawful, all that it says is true, each actor but the host does what its own machine does while it is closed, and the report is that of the
 -- journal and of the document that its marks build.
 pub record IsRight (words : List (List ℕ)) (files : Files) (marks : List Mark) (bytes : List ℕ) : Type 0 where
   pub given : Given words files
-  pub lawful : IsLawful (input_of given.page (texts_in given.scripts)) marks
-  pub genuine : IsGenuine marks
-  pub acts : AllActsAreSolo given.address marks
-  pub reported : bytes ≡ report_of given.address given.names (document_of marks) marks
+  pub right : journal.IsRight (run_of given) marks
+  pub reported : bytes ≡ report_of given.address given.names (document_of (run_of given) marks) marks
 
 -- The same for the files that a folder tells, and for some files where it tells none.
 pub record IsRightOver (words : List (List ℕ)) (told : Option Files) (marks : List Mark) (bytes : List ℕ) : Type 0 where
@@ -74,16 +54,14 @@ pub record IsRightOver (words : List (List ℕ)) (told : Option Files) (marks : 
   pub known : IfSome told (λ all. all ≡ files)
   pub right : IsRight words files marks bytes
 
--- the turns of what these words and files give, as far as they came, and what the actors of this run's address did
+-- the journal is right so far for what these words and files give
 pub record IsBegun (words : List (List ℕ)) (told : Option Files) (marks : List Mark) : Type 0 where
   pub files : Files
   pub known : IfSome told (λ all. all ≡ files)
   pub given : Given words files
-  pub lawful : IsLawfulSoFar (input_of given.page (texts_in given.scripts)) marks
-  pub acts : (i : Actor) → i ≢ the_host → ActsAreSoloSoFar (setups_of given.address) i marks
+  pub right : journal.IsRightSoFar (run_of given) marks
 
--- What holds of the journal of a run that ended early: it is empty, or its turns are those of the run as far as they came, and each actor
--- but the host did what its own machine does by itself, but for one deed at most of the one that was running; its answers are the true ones.
-pub record IsRightSoFar (words : List (List ℕ)) (told : Option Files) (marks : List Mark) : Type 0 where
-  pub lawful : (marks ≡ []) ⊎ IsBegun words told marks
-  pub genuine : IsGenuine marks
+-- What holds of the journal of a run that ended early: it is empty, or it is right as far as it came, where each actor but the host did what its
+-- own machine does while it is closed, but for one deed at most of the one that was running.
+abbrev pub IsRightSoFar : List (List ℕ) → Option Files → List Mark → Type 0
+IsRightSoFar words told marks = (marks ≡ []) ⊎ IsBegun words told marks

@@ -10,10 +10,6 @@ use Rattle.small_forms.specs.declared.userscript.Userscript.{Userscript}
 abbrev pub names_in : List Userscript → List (List ℕ)
 names_in scripts = map (λ (script : Userscript). script.name) scripts
 
--- their whole texts
-abbrev pub texts_in : List Userscript → List (List ℕ)
-texts_in scripts = map (λ (script : Userscript). script.text) scripts
-
 -- the names of their files
 abbrev pub files_in : List ScriptFile → List (List ℕ)
 files_in scripts = map (λ (script : ScriptFile). string_bytes script.file) scripts

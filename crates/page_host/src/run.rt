@@ -152,7 +152,8 @@ fn load_page<F: Folder>(alloc: Global, folder: &mut F) -> Result<Page, HostFault
 
 /// Runs what was loaded, and builds the report.
 fn run_and_report(alloc: Global, address: &str, loaded: &Loaded) -> Mem<RunOutput>
-    requires { IsFormed loaded.now }
+    requires address { IsPlainAddress address.now }
+    requires forms { IsFormed loaded.now }
     ensures output { IfOk result (λ output. IsOutput address.now loaded.now output) }
     ensures limit { IfOk result (λ output. output.journal.limit ≡ MARK_LIMIT) }
 {

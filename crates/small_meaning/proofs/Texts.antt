@@ -20,7 +20,7 @@ use Rattle.small_meaning.specs.Rows.{Reads}
 use Rattle.small_meaning.specs.Shows.{IsText}
 
 -- a scalar takes at most four bytes
-four_bytes : (t : List ℕ) → utf8_len t ≤ 4 * length t
+pub four_bytes : (t : List ℕ) → utf8_len t ≤ 4 * length t
 four_bytes [] = omega arith
 four_bytes (c ∷ cs) = omega (arith, four_bytes cs, length-append (encode c) (encode_utf8_all cs), length-encode c, (len_utf8_bounds c).1)
 
