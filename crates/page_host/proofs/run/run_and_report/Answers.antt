@@ -16,5 +16,5 @@ returns-clause-output c =
     record {
       read_selector = is.read_selector;
       right = is.right;
-      reported = all_reported address (files_in scripts) given c.in_ok-played.played c.in_ok-document.document.items c.in_ok-report.report.items is.document c.in_ok-document.ensures.ok c.in_ok-report.ensures;
+      reported = all_reported address (files_in scripts) given c.in_ok-played.played c.in_ok-document.document.items c.in_ok-report.report.items is.document c.in_ok-document.ensures.ok (rw (c.as_slice-2.ensures.value, c.as_slice-3.ensures.value) at c.in_ok-report.ensures);
     }
