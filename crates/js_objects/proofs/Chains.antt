@@ -66,8 +66,8 @@ ends_through (suc k) l xs n x y None e p a = (0, refl)
 ends_through (suc k) l xs n x y (Some c) e p a = by_number c.0 n ((j : ℕ) × (above j (slice_set xs n y) (Some c) ≡ None))
     (λ s. (suc l, ap (λ o. above l (slice_set xs n y) o) (ap (λ (o : Option Cell). proto_by o) (ap (λ m. slice_get (slice_set xs n y) m) s ∙ get_set_same xs n y x e)) ∙ p))
     (λ d.
-      let r : (j : ℕ) × (above j (slice_set xs n y) (proto_by (slice_get xs c.0)) ≡ None) = ends_through k l xs n x y (proto_by (slice_get xs c.0)) e p a in
-      (suc r.0, ap (λ o. above r.0 (slice_set xs n y) o) (ap (λ (o : Option Cell). proto_by o) (get_set_other xs n c.0 y d)) ∙ r.1))
+    let r : (j : ℕ) × (above j (slice_set xs n y) (proto_by (slice_get xs c.0)) ≡ None) = ends_through k l xs n x y (proto_by (slice_get xs c.0)) e p a in
+    (suc r.0, ap (λ o. above r.0 (slice_set xs n y) o) (ap (λ (o : Option Cell). proto_by o) (get_set_other xs n c.0 y d)) ∙ r.1))
 
 ends_of : (xs : List Cell) (o : Option CellId) → Ends xs → (k : ℕ) × (above k xs o ≡ None)
 ends_of xs None s = (0, refl)
@@ -182,11 +182,11 @@ short_by : (cells : List Cell) (o r : Option CellId) → InHeap cells → IfSome
 short_by cells o None h w k e q = q
 short_by cells o (Some c) h w k e q =
     let l : suc (length cells) ≤ length cells = pigeonhole (suc (length cells)) (length cells) (λ i. number_of (above i cells o))
-      (λ i l. let b : (b : CellId) × (above i cells o ≡ Some b) = some_before i (length cells) cells o c (omega arith) q in rw b.1 (within_above i cells o b.0 h w b.1))
-      (λ i j a b s. by_number i j (i ≡ j) (λ e. e) (λ d. elim (one_less i j d) as (λ _. i ≡ j) [
-        | inl t ↦ absurd (steps_apart cells o k (length cells) i j c e q t (omega arith) s)
-        | inr t ↦ absurd (steps_apart cells o k (length cells) j i c e q t (omega arith) (sym s))
-      ])) in
+    (λ i l. let b : (b : CellId) × (above i cells o ≡ Some b) = some_before i (length cells) cells o c (omega arith) q in rw b.1 (within_above i cells o b.0 h w b.1))
+    (λ i j a b s. by_number i j (i ≡ j) (λ e. e) (λ d. elim (one_less i j d) as (λ _. i ≡ j) [
+      | inl t ↦ absurd (steps_apart cells o k (length cells) i j c e q t (omega arith) s)
+      | inr t ↦ absurd (steps_apart cells o k (length cells) j i c e q t (omega arith) (sym s))
+    ])) in
     absurd (omega arith)
 
 short : (cells : List Cell) (o : Option CellId) → InHeap cells → Ends cells → IfSome o (λ q. q.0 < length cells) → above (length cells) cells o ≡ None

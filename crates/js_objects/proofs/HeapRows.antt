@@ -186,8 +186,8 @@ skipped_sound h k i n s c o = record {
   counted = λ j. o.in_count j ∙ (s.counted j ∙ ap (owned j) (sym c));
   placed = λ j p d w. rw c (by_number j i (Sits j p (slice_get h.cells d.0))
       (λ q. get_added (places h i) (no_cells n) p (Some d) (Sits j p (slice_get h.cells d.0)) (rw (q, o.own) at w)
-        (λ old. s.placed j p d (rw q old))
-        (λ t f g. absurd (let e : Some d ≡ None = get_none n t (Some d) g in cc)))
+      (λ old. s.placed j p d (rw q old))
+      (λ t f g. absurd (let e : Some d ≡ None = get_none n t (Some d) g in cc)))
       (λ q. s.placed j p d (rw (o.others j q) at w)));
   seated = λ j p m w. by_number j i (slice_get (places_by (slice_get k.owners j)) p ≡ Some (Some (id m)))
       (λ q. let old : slice_get (places h j) p ≡ Some (Some (id m)) = s.seated j p m (rw c at w) in rw (q, o.own) (get_kept (places h i) (no_cells n) p (Some (id m)) (rw q at old)))
@@ -205,7 +205,7 @@ skipped h now k i to v o l = rw (← v) (record {
       let e : p ≡ length (places h i) + (p - length (places h i)) = omega arith in
       let m : p - length (places h i) < to - length (places h i) = omega arith in
       rw o.own (subst (λ (q : ℕ). slice_get (places h i ++ no_cells (to - length (places h i))) q ≡ Some None) (sym e)
-        (get_right (places h i) (no_cells (to - length (places h i))) (p - length (places h i)) ∙ none_there (to - length (places h i)) (p - length (places h i)) m));
+      (get_right (places h i) (no_cells (to - length (places h i))) (p - length (places h i)) ∙ none_there (to - length (places h i)) (p - length (places h i)) m));
   others = o.others;
   in_standards = o.in_standards;
   in_limit = l;
@@ -230,22 +230,22 @@ given_sound h k n p x y s e z u v t c l o = record {
   counted = λ i. o.in_count i ∙ (s.counted i ∙ (sym (owned_set i h.cells n x y e u) ∙ ap (owned i) (sym c)));
   placed = λ i q d w. rw c (by_number i x.owner.0 (Sits i q (slice_get (slice_set h.cells n y) d.0))
       (λ j. get_added (places h x.owner.0) (Some (id n) ∷ []) q (Some d) (Sits i q (slice_get (slice_set h.cells n y) d.0)) (rw (j, o.own) at w)
-        (λ old. sits_kept h.cells n d.0 i q x y e z (s.placed i q d (rw j old)))
-        (λ m f g. let a : (m ≡ 0) × (Some d ≡ Some (id n)) = get_one (Some (id n)) (Some d) m g in
-          let b : d.0 ≡ n = cc in
-          let r : q ≡ p = omega arith in
-          rw (b, j, r) (sits_here h.cells n p x y e u v)))
+      (λ old. sits_kept h.cells n d.0 i q x y e z (s.placed i q d (rw j old)))
+      (λ m f g. let a : (m ≡ 0) × (Some d ≡ Some (id n)) = get_one (Some (id n)) (Some d) m g in
+      let b : d.0 ≡ n = cc in
+      let r : q ≡ p = omega arith in
+      rw (b, j, r) (sits_here h.cells n p x y e u v)))
       (λ j. sits_kept h.cells n d.0 i q x y e z (s.placed i q d (rw (o.others i j) at w))));
   seated = λ i q m w. by_number m n (slice_get (places_by (slice_get k.owners i)) q ≡ Some (Some (id m)))
       (λ j. let a : (y.owner.0 ≡ i) × (y.place ≡ Some q) = rw (c, j, get_set_same h.cells n y x e) at w in
-        let b : i ≡ x.owner.0 = sym a.0 ∙ ap (λ (f : Actor). f.0) u in
-        let r : Some p ≡ Some q = sym v ∙ a.1 in
-        let f : q ≡ length (places h x.owner.0) + 0 = omega (arith, same_Some p q r) in
-        rw (j, b, o.own, f) (get_right (places h x.owner.0) (Some (id n) ∷ []) 0))
+      let b : i ≡ x.owner.0 = sym a.0 ∙ ap (λ (f : Actor). f.0) u in
+      let r : Some p ≡ Some q = sym v ∙ a.1 in
+      let f : q ≡ length (places h x.owner.0) + 0 = omega (arith, same_Some p q r) in
+      rw (j, b, o.own, f) (get_right (places h x.owner.0) (Some (id n) ∷ []) 0))
       (λ j. let old : slice_get (places h i) q ≡ Some (Some (id m)) = s.seated i q m (rw (get_set_other h.cells n m y j) at (rw c at w)) in
-        by_number i x.owner.0 (slice_get (places_by (slice_get k.owners i)) q ≡ Some (Some (id m)))
-          (λ f. rw (f, o.own) (get_kept (places h x.owner.0) (Some (id n) ∷ []) q (Some (id m)) (rw f at old)))
-          (λ f. rw (o.others i f) old));
+      by_number i x.owner.0 (slice_get (places_by (slice_get k.owners i)) q ≡ Some (Some (id m)))
+      (λ f. rw (f, o.own) (get_kept (places h x.owner.0) (Some (id n) ∷ []) q (Some (id m)) (rw f at old)))
+      (λ f. rw (o.others i f) old));
   protos = λ j a d g w. rw (c, length_set h.cells n y) (by_number j n (d.0 < length h.cells)
       (λ q. s.protos n x d e (sym t ∙ (let b : Some y ≡ Some a = sym (get_set_same h.cells n y x e) ∙ (rw (c, q) at g) in ap (λ (m : Cell). m.proto) (same_Some y a b) ∙ w)))
       (λ q. s.protos j a d (sym (get_set_other h.cells n j y q) ∙ (rw c at g)) w));
@@ -306,7 +306,6 @@ pub standard_out : (h now : Store) (i : ℕ) (t : Standard) → h ≡ now → sl
 unfolding standards
 standard_out h now i t v g c s = rw (← v, g) at s
 
--- ---- the empty heap, and counts
 -- ---- the empty heap, and counts
 
 pub empty_sound : (h : Store) → h.cells ≡ [] → h.owners ≡ [] → Sound h
@@ -405,16 +404,16 @@ pub not_at_limit : (h now : Store) (x : Cell) (i : ℕ) → h ≡ now → Sound 
 unfolding count_of
 not_at_limit h now x i v s e d l = d (rw (e, s.counted i) (rw (← v) at l))
 
-same_limit : {A B : Type 0} (f : HeapFault) (P Q : Type 0) → (P → Q) → AtLimit {A} (Err f) P → AtLimit {B} (Err f) Q
-same_limit fault.CellLimit P Q g l = g l
-same_limit fault.NoMemory P Q g l = tt
-same_limit fault.Cycle P Q g l = l
-same_limit fault.Sparse P Q g l = l
-same_limit fault.Kind P Q g l = l
+same_limit : (A B : Type 0) (f : HeapFault) (P Q : Type 0) → (P → Q) → AtLimit {A = A} (Err f) P → AtLimit {A = B} (Err f) Q
+same_limit A B fault.CellLimit P Q g l = g l
+same_limit A B fault.NoMemory P Q g l = tt
+same_limit A B fault.Cycle P Q g l = l
+same_limit A B fault.Sparse P Q g l = l
+same_limit A B fault.Kind P Q g l = l
 
 pub at_limit : {A B : Type 0} (r : Result A HeapFault) (q : Result B HeapFault) (f : HeapFault) (h now : Store) (x : Cell) (i : ℕ) → r ≡ Err f → q ≡ Err f → h ≡ now → Sound h → x.owner.0 ≡ i → AtLimit q (h.limit ≤ count_by (slice_get h.owners x.owner.0)) → AtLimit r (now.limit ≤ owned i now.cells)
 unfolding count_of
-at_limit r q f h now x i a b v s e l = rw a (same_limit f (h.limit ≤ count_by (slice_get h.owners x.owner.0)) (now.limit ≤ owned i now.cells) (λ w. rw (← v) (rw (e, s.counted i) at w)) (rw b at l))
+at_limit r q f h now x i a b v s e l = rw a (same_limit _ _ f (h.limit ≤ count_by (slice_get h.owners x.owner.0)) (now.limit ≤ owned i now.cells) (λ w. rw (← v) (rw (e, s.counted i) at w)) (rw b at l))
 
 -- ---- a place is given, as the code goes
 

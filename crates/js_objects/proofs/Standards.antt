@@ -136,7 +136,7 @@ sets_here s c at n read items x q e a l m =
     let p : at ≡ standard_spot s items = q ∙ ap (λ r. standard_spot s r) e in
     let w : standard_spot s items < length items = omega arith in
     sets_spot s c items (slice_set items at (record { standard = x.standard; cell = c })) x w
-      (ap (λ (y : Settled). slice_set items at (record { standard = y.standard; cell = c })) a ∙ ap (λ k. slice_set items k (record { standard = (slice_index_or items k x).standard; cell = c })) p)
+    (ap (λ (y : Settled). slice_set items at (record { standard = y.standard; cell = c })) a ∙ ap (λ k. slice_set items k (record { standard = (slice_index_or items k x).standard; cell = c })) p)
 
 pub sets_last : (s : Standard) (c : CellId) (at n : ℕ) (read items new : List Settled) → at ≡ standard_spot s read → read ≡ items → n ≤ at → n ≡ length items → new ≡ items ++ record { standard = s; cell = c } ∷ [] → Sets s c items new
 sets_last s c at n read items new q e l m w =

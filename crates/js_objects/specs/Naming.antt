@@ -18,13 +18,13 @@ use Rattle.js_objects.specs.declared.bindings.Binding.{Binding}
 use Rattle.js_objects.specs.declared.cell.Cell.{Cell}
 
 -- how a machine names cells: what a value names, a proper cell by its place, a scope, a built-in function by its number among the
--- intrinsics, and an object of another by its owner, its number and how it is seen
+-- intrinsics, and what a link names, by the owner and the number of the other's object and how it is seen
 pub record Names : Type 0 where
   pub reference : ℕ → Reference
   pub place : ℕ → ℕ
   pub scope : ℕ → ℕ
   pub builtin : ℕ → Builtin
-  pub object : Actor → ℕ → Look → ℕ
+  pub link : Actor → ℕ → Look → Reference
 
 abbrev pub value_of : Names → Slot → Value
 value_of names (Prim prim) = Primitive prim
@@ -58,8 +58,8 @@ binding_of names binding = record { name = binding.name; value = value_of names 
 abbrev pub bindings_of : Names → List Binding → List m.Binding
 bindings_of names bindings = map (binding_of names) bindings
 
--- A thing, a scope and a forwarded function have no form of a machine, since no machine has them as proper cells; a plain object stands for
--- them, so that what they have of their own is told in one way.
+-- A thing and a scope have no form of a machine, since no machine has them as proper cells; a plain object stands for them, so that what they
+-- have of their own is told in one way.
 abbrev pub form_of : Names → List Slot → Form → m.Form
 form_of names elements f.Plain = m.Plain
 form_of names elements f.Array = m.Array (values_of names elements)
@@ -67,8 +67,8 @@ form_of names elements (f.Function code scope) = m.Closure code (scope_of names 
 form_of names elements (f.Native n) = m.Native (names.builtin n)
 form_of names elements (f.Error name message) = m.Error name message
 form_of names elements (f.Thing thing) = m.Plain
-form_of names elements (f.Link owner c look) = m.Link (names.object owner c.0 look)
-form_of names elements (f.Forward owner c) = m.Plain
+form_of names elements (f.Link owner c look) = m.Link (names.link owner c.0 look)
+form_of names elements (f.Forward owner c) = m.Forward owner (names.place c.0)
 form_of names elements f.Scope = m.Plain
 
 -- the cell

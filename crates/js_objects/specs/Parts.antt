@@ -1,12 +1,17 @@
 -- The part of one actor: what its machine has of the heap, under a naming of its cells. Each list of the machine is told on its own, cell by
 -- cell, so that a call that changes one cell changes what is said of that one alone. Scopes, met things and met objects of others stand in
--- the order of their cells (own; ECMAScript, 6.1.7 and 9.1.1.1). How the machine sees an object of another isn't told here.
+-- the order of their cells (own; ECMAScript, 6.1.7 and 9.1.1.1).
 use Rattle.std.specs.Prelude.{◌≡◌, ◌<◌, ◌-◌, ◌==◌, ◌&&◌, ◌++◌, ℕ, zero, suc, Bool, true, false, List, [], ◌∷◌, Option, Some, None, length, slice_get, slice_set, if◌then◌else◌}
 use Rattle.door.specs.declared.values.Actor.{Actor}
+use Rattle.door.specs.declared.values.Look.{Look}
+use Rattle.door.specs.declared.values.Look.TheVariants as looks
+use Rattle.door.specs.declared.values.Shape.{Shape}
+use Rattle.door.specs.declared.values.Shape.TheVariants as shapes
 use Rattle.door.specs.declared.values.Thing.{Thing}
 use Rattle.door.specs.declared.zones.Zone.{Zone}
 use Rattle.js_semantics.specs.Machine as m
 use Rattle.js_semantics.specs.Machine.{Machine, Reference, Scope, MetThing, MetObject, here_or_none}
+use Rattle.js_objects.specs.declared.values.CellId.{CellId}
 use Rattle.js_objects.specs.declared.values.Form.{Form}
 use Rattle.js_objects.specs.declared.values.Form.TheVariants as f
 use Rattle.js_objects.specs.declared.cell.Cell.{Cell}
@@ -18,31 +23,43 @@ pub record IsOf (h : Store) (i n : ℕ) (x : Cell) : Type 0 where
   pub at : slice_get h.cells n ≡ Some x
   pub owner : x.owner.0 ≡ i
 
--- ---- what a cell is to a machine: a scope, a met thing, a met object of another, or a proper cell
+-- ---- what a cell is to a machine: a scope, a met thing, a met object of another, a waived one, or a proper cell
 
 pub data Role : Type 0 where
   Scoped : Role
   Met : Role
   Linked : Role
+  Waived : Role
   Proper : Role
+
+-- of a waived object nothing is told but its place, since who waives has no machine of its own yet
+abbrev pub role_of_link : Look → Role
+role_of_link looks.Waived = Waived
+role_of_link other = Linked
 
 abbrev pub role_of : Form → Role
 role_of f.Scope = Scoped
 role_of (f.Thing thing) = Met
-role_of (f.Link owner c look) = Linked
+role_of (f.Link owner c look) = role_of_link look
 role_of form = Proper
 
 abbrev pub is_role : Role → Role → Bool
 is_role Scoped Scoped = true
 is_role Met Met = true
 is_role Linked Linked = true
+is_role Waived Waived = true
 is_role Proper Proper = true
 is_role role other = false
 
--- the owner of the object that a link stands for
-abbrev pub LinksTo : Form → Actor → Type 0
-LinksTo (f.Link owner c look) a = owner ≡ a
-LinksTo form a = ⊥
+-- the shape that others see (own)
+abbrev pub shape_of : Form → Shape
+shape_of f.Array = shapes.Array
+shape_of (f.Function code scope) = shapes.Function
+shape_of (f.Native n) = shapes.Function
+shape_of (f.Error name message) = shapes.Error
+shape_of (f.Link owner c look) = shapes.Function
+shape_of (f.Forward owner c) = shapes.Function
+shape_of form = shapes.Plain
 
 -- how many cells of a kind an owner has
 abbrev pub counted : Role → ℕ → List Cell → ℕ
@@ -51,10 +68,11 @@ counted role i (x ∷ xs) = if x.owner.0 == i && is_role (role_of x.form) role t
 
 -- ---- the lists of a machine
 
--- proper cells by place; where a link has a place, a function of another is named
+-- Proper cells by place; where a link has a place, a function of another is named. Whoever owns a cell, its place is what it is named by
+-- where a function is named.
 pub record HasCells (names : Names) (i : ℕ) (h : Store) (cells : List (Option m.Cell)) : Type 0 where
   pub next : length cells ≡ length (places h i)
-  pub place : (n p : ℕ) (x : Cell) → IsOf h i n x → x.place ≡ Some p → names.place n ≡ p
+  pub place : (n p : ℕ) (x : Cell) → slice_get h.cells n ≡ Some x → x.place ≡ Some p → names.place n ≡ p
   pub reference : (n p : ℕ) (x : Cell) → IsOf h i n x → x.place ≡ Some p → role_of x.form ≡ Proper → names.reference n ≡ m.Own p
   pub cell : (n p : ℕ) (x : Cell) → IsOf h i n x → x.place ≡ Some p → here_or_none (slice_get cells p) ≡ Some (cell_of names x)
   pub empty : (p : ℕ) → ((n : ℕ) → Sits i p (slice_get h.cells n) → ⊥) → here_or_none (slice_get cells p) ≡ None
@@ -76,17 +94,25 @@ pub record HasThings (names : Names) (i : ℕ) (h : Store) (things : List MetThi
   pub thing : (n : ℕ) (x : Cell) (t : Thing) → IsOf h i n x → x.form ≡ f.Thing t → (k : ℕ) × IsThing names things n k x t
   pub order : (n k p q : ℕ) (x y : Cell) → IsOf h i n x → IsOf h i k y → role_of x.form ≡ Met → role_of y.form ≡ Met → n < k → names.reference n ≡ m.Thing p → names.reference k ≡ m.Thing q → p < q
 
--- an object of another under its name, with the owner's own properties on it
-pub record IsObject (names : Names) (objects : List MetObject) (n k : ℕ) (x : Cell) (a : Actor) (o : MetObject) : Type 0 where
+-- An object of another as a link has it: whose it is, its shape, how it is seen, and the actor's own properties on it. Its cell was made before
+-- the link.
+pub record IsSeen (names : Names) (h : Store) (n : ℕ) (x : Cell) (a : Actor) (c : CellId) (l : Look) (o : MetObject) : Type 0 where
+  pub link : names.link a c.0 l ≡ names.reference n
+  pub owner : o.owner ≡ a
+  pub shape : (y : Cell) → c.0 < n → slice_get h.cells c.0 ≡ Some y → o.shape ≡ shape_of y.form
+  pub look : o.look ≡ l
+  pub slots : o.slots ≡ slots_of names x.slots
+
+-- .. under its name
+pub record IsObject (names : Names) (h : Store) (objects : List MetObject) (n k : ℕ) (x : Cell) (a : Actor) (c : CellId) (l : Look) (o : MetObject) : Type 0 where
   pub name : names.reference n ≡ m.Foreign k
   pub there : slice_get objects k ≡ Some o
-  pub owner : o.owner ≡ a
-  pub slots : o.slots ≡ slots_of names x.slots
+  pub seen : IsSeen names h n x a c l o
 
 -- met objects of others
 pub record HasObjects (names : Names) (i : ℕ) (h : Store) (objects : List MetObject) : Type 0 where
   pub count : length objects ≡ counted Linked i h.cells
-  pub object : (n : ℕ) (x : Cell) (a : Actor) → IsOf h i n x → LinksTo x.form a → (k : ℕ) × (o : MetObject) × IsObject names objects n k x a o
+  pub object : (n : ℕ) (x : Cell) (a : Actor) (c : CellId) (l : Look) → IsOf h i n x → x.form ≡ f.Link a c l → role_of x.form ≡ Linked → (k : ℕ) × (o : MetObject) × IsObject names h objects n k x a c l o
   pub order : (n k p q : ℕ) (x y : Cell) → IsOf h i n x → IsOf h i k y → role_of x.form ≡ Linked → role_of y.form ≡ Linked → n < k → names.reference n ≡ m.Foreign p → names.reference k ≡ m.Foreign q → p < q
 
 -- the machine of the owner
@@ -176,12 +202,11 @@ added names x object machine = record machine {
 }
 
 -- how a new cell is to be named: a scope, a thing and an object of another each under the next number
-pub record IsNamed (names : Names) (machine : Machine) (n : ℕ) (x : Cell) (object : MetObject) : Type 0 where
-  pub scope : role_of x.form ≡ Scoped → names.scope n ≡ length machine.scopes
-  pub thing : role_of x.form ≡ Met → names.reference n ≡ m.Thing (length machine.things)
-  pub object : role_of x.form ≡ Linked → names.reference n ≡ m.Foreign (length machine.objects)
-  pub object_owner : (a : Actor) → LinksTo x.form a → object.owner ≡ a
-  pub object_slots : object.slots ≡ slots_of names x.slots
+pub record IsNamed (names : Names) (h : Store) (machine : Machine) (x : Cell) (object : MetObject) : Type 0 where
+  pub as_scope : role_of x.form ≡ Scoped → names.scope (length h.cells) ≡ length machine.scopes
+  pub as_thing : role_of x.form ≡ Met → names.reference (length h.cells) ≡ m.Thing (length machine.things)
+  pub as_object : role_of x.form ≡ Linked → names.reference (length h.cells) ≡ m.Foreign (length machine.objects)
+  pub as_seen : (a : Actor) (c : CellId) (l : Look) → x.form ≡ f.Link a c l → role_of x.form ≡ Linked → IsSeen names h (length h.cells) x a c l object
 
 -- places that have no proper cell, so many
 abbrev pub no_proper : ℕ → List (Option m.Cell)

@@ -15,7 +15,9 @@ ghost use Rattle.js_objects.specs.Heaps.{AtLimit, Changed, GivesPlace, SkipsPlac
 ghost use Rattle.js_objects.specs.declared.values.CellId.{CellId as AnyId};
 
 use crate::cell::Cell;
-use crate::owner::{Owner, add_place, cell_among, entry_of, reserve, settle_for, skip_to, standard_among};
+use crate::owner::{
+    Owner, add_place, cell_among, entry_of, reserve, settle_for, skip_to, standard_among,
+};
 use crate::values::{CellId, Form, HeapFault, Prop, Slot, Standard};
 use base_text::{Mem, Text};
 use door::Actor;

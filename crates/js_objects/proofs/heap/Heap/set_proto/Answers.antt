@@ -3,7 +3,7 @@ use Rattle.js_objects.proofs.HeapRows.{len_within, cell_here, changed_sound, cha
 use Rattle.js_objects.proofs.heap.Heap.set_proto.Goals as goal
 
 pub returns-then-closes-clause-cycle : goal.returns-then-closes-clause-cycle
-returns-then-closes-clause-cycle c = closed _ _ _ _ _ refl c.if-closes.true c.closes.ensures
+returns-then-closes-clause-cycle c = closed _ c.args.self.now _ _ _ refl c.if-closes.true c.closes.ensures
 
 pub index_mut-requires : goal.index_mut-requires
 index_mut-requires c = len_within _ _ _ _ c.self.view_is c.self.inside.cells.ok.0 c.requires.at
