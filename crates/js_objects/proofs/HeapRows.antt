@@ -411,9 +411,9 @@ same_limit A B fault.Cycle P Q g l = l
 same_limit A B fault.Sparse P Q g l = l
 same_limit A B fault.Kind P Q g l = l
 
-pub at_limit : {A B : Type 0} (r : Result A HeapFault) (q : Result B HeapFault) (f : HeapFault) (h now : Store) (x : Cell) (i : ℕ) → r ≡ Err f → q ≡ Err f → h ≡ now → Sound h → x.owner.0 ≡ i → AtLimit q (h.limit ≤ count_by (slice_get h.owners x.owner.0)) → AtLimit r (now.limit ≤ owned i now.cells)
+pub at_limit : (A B : Type 0) (r : Result A HeapFault) (q : Result B HeapFault) (f : HeapFault) (h now : Store) (x : Cell) (i : ℕ) → r ≡ Err f → q ≡ Err f → h ≡ now → Sound h → x.owner.0 ≡ i → AtLimit q (h.limit ≤ count_by (slice_get h.owners x.owner.0)) → AtLimit r (now.limit ≤ owned i now.cells)
 unfolding count_of
-at_limit r q f h now x i a b v s e l = rw a (same_limit _ _ f (h.limit ≤ count_by (slice_get h.owners x.owner.0)) (now.limit ≤ owned i now.cells) (λ w. rw (← v) (rw (e, s.counted i) at w)) (rw b at l))
+at_limit A B r q f h now x i a b v s e l = rw a (same_limit B A f (h.limit ≤ count_by (slice_get h.owners x.owner.0)) (now.limit ≤ owned i now.cells) (λ w. rw (← v) (rw (e, s.counted i) at w)) (rw b at l))
 
 -- ---- a place is given, as the code goes
 
