@@ -1,0 +1,13 @@
+mod Lists
+mod SlotLists
+mod ElementLists
+mod CellRows
+mod Keys
+mod OwnerRows
+mod Chains
+mod Standards
+mod HeapRows
+mod PartWrites
+mod PartAdds
+mod PartPlaces
+mod PartReads
