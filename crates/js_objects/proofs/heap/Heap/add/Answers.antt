@@ -22,4 +22,4 @@ returns-clause-limit c = not_at_limit _ _ c.new-cell.result _ c.self.view_is c.s
 pub returns-in_err-push_cell-clause-limit : goal.returns-in_err-push_cell-clause-limit
 returns-in_err-push_cell-clause-limit c =
     let p = err_from_is_err_and c.from_residual.result c.from_residual.ensures.1 in
-    at_limit _ _ c.from_residual.result c.push_cell.result c.in_err-push_cell.field-0.0 _ _ c.new-cell.result _ (p.1 ∙ ap (λ e. Err e) p.2) c.in_err-push_cell.was c.self.view_is c.self.invariant (ap (λ (k : Cell). k.owner.0) c.new-cell.ensures) c.in_err-push_cell.ensures.limit
+    at_limit _ (Unit {0}) c.from_residual.result (Err c.in_err-push_cell.field-0.0) c.in_err-push_cell.field-0.0 _ _ c.new-cell.result _ (p.1 ∙ ap (λ e. Err e) p.2) refl c.self.view_is c.self.invariant (ap (λ (k : Cell). k.owner.0) c.new-cell.ensures) c.in_err-push_cell.ensures.limit
