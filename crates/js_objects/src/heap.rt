@@ -13,6 +13,7 @@ ghost use Rattle.js_objects.specs.Heaps.{fresh_cell, owned, count_by, Closes, Si
 ghost use Rattle.js_objects.specs.ChainsModel.{comes_to};
 ghost use Rattle.js_objects.specs.Heaps.{AtLimit, Changed, GivesPlace, SkipsPlaces, HasStandard, SetsStandard};
 ghost use Rattle.js_objects.specs.declared.values.CellId.{CellId as AnyId};
+ghost use Rattle.js_objects.specs.declared.values.TheConstants.{PLACE_LIMIT};
 
 use crate::cell::Cell;
 use crate::owner::{
@@ -253,7 +254,7 @@ impl Heap {
 
     /// Makes `to` the next place of an owner, unless its next place is above it.
     pub fn skip_places(&mut self, owner: Actor, to: u32) -> Mem<()>
-        requires { to ≤ 1000 }
+        requires { to ≤ PLACE_LIMIT }
         ensures ok { OnOk result (SkipsPlaces self.old self.new owner.0 to) }
         ensures err { OnErr result (SameRest self.old self.new) }
         ensures cells { self.new.cells ≡ self.old.cells }

@@ -23,4 +23,4 @@ pub use laws::{
 };
 pub use owner::{Owner, Settled};
 pub use slots::{Held, Slots};
-pub use values::{CellId, Form, HeapFault, Prop, Slot, Standard};
+pub use values::{CellId, Form, HeapFault, PLACE_LIMIT, Prop, Slot, Standard};

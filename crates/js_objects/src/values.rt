@@ -3,8 +3,11 @@
 use base_text::{NoMemory, Text};
 use door::{Actor, Kind, Look, Thing};
 use js_ops::Primitive;
-use js_syntax::Code;
+use js_syntax::{Function, Shared};
 use std::alloc::{AllocError, AllocFailed};
+
+/// The last place of an owner up to which places may be left out.
+pub const PLACE_LIMIT: u32 = 1_000;
 
 /// A cell, by its number on the heap.
 #[derive(Clone, Copy, Debug, PartialEq, Eq)]
@@ -43,7 +46,7 @@ pub enum Form {
     /// An array.
     Array,
     /// A function of a script: its code, and the scope around it, which is none at the top.
-    Function(Code, Option<CellId>),
+    Function(Shared<Function>, Option<CellId>),
     /// A built-in function, by its number among the intrinsics.
     Native(u32),
     /// An error, with name and message as it was made.
