@@ -3,10 +3,9 @@ use Rattle.std.proofs.Common.{◌≡◌, ◌≢◌, ℕ, zero, suc, ◌+◌, ◌
 use Rattle.std.specs.Prelude.{slice_index_or, if◌then◌else◌, true, false, Bool, ◌==◌, ◌&&◌, nat_le}
 use Rattle.std.specs.Fmt.{decimal}
 use Rattle.std.proofs.lemmas.Fmt.{decimal_digit, decimal_step, length-decimal-le}
-use Rattle.std.proofs.lemmas.Bool.{lt-leb, le-leb, eq-eqb, ne_eqb}
+use Rattle.std.proofs.lemmas.Bool.{lt-leb, le-leb, eq-eqb, ne_eqb, ltb-true}
 use Rattle.std.specs.Cmp.Lexicographic.{bytes_decides}
 use Rattle.std.specs.Str.{bytes_eq}
-use Rattle.base_text.specs.declared.number.TheConstants.{MAX_SAFE_INTEGER}
 use Rattle.js_semantics.specs.Properties.{number_spelled, place_spelled, MAX_NUMBER}
 
 -- ---- equal lists
@@ -139,7 +138,7 @@ pub place_long : (key : List ℕ) → 16 < length key → place_spelled key ≡ 
 place_long key h = elim (cases_lt MAX_NUMBER (number_spelled 0 key)) as (λ _. place_spelled key ≡ None) [
   | inl a ↦ place_past key a
   | inr b ↦
-      let m : number_spelled 0 key ≤ MAX_SAFE_INTEGER = b in
+      let few : MAX_NUMBER < 10 ^ 16 = ltb-true MAX_NUMBER (10 ^ 16) refl in
       let l : length (decimal (number_spelled 0 key)) ≤ 16 = length-decimal-le 16 (number_spelled 0 key) (omega arith) (omega arith) (omega arith) in
       place_here (number_spelled 0 key) key false refl b (eq_never (decimal (number_spelled 0 key)) key (λ s. let k : length (decimal (number_spelled 0 key)) ≡ length key = ap (λ xs. length xs) s in absurd (omega arith)))
 ]
