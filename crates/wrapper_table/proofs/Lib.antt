@@ -1,0 +1,5 @@
+pub mod CellMaps
+pub mod Keys
+pub mod Standing
+pub mod Limits
+pub mod Calls
