@@ -4,6 +4,7 @@ pub mod CollapseModel
 pub mod Crossings
 pub mod DocumentReplies
 pub mod DocumentTree
+pub mod DueTimers
 pub mod ElementReplies
 pub mod EventCaseFacts
 pub mod EventCases

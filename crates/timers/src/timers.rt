@@ -121,8 +121,8 @@ impl Timers {
         there
     }
 
-    /// The timer that is due at a clock, if one is: the first by due time and then by setting. It costs the waiting
-    /// timers.
+    /// The timer that is due at a clock, if one is: the least by due time and then by the order of setting, as
+    /// `the_due_timer_is_the_least` says of the definition. It costs the waiting timers.
     pub fn next_due(&self, upto: u64) -> Option<DueTimer>
         ensures { result ≡ option_map due_timer (spec.next_due self.now.waiting upto) }
     {
