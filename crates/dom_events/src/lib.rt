@@ -4,6 +4,7 @@
 #[cfg(test)]
 mod bench_tests;
 mod events;
+mod laws;
 mod listeners;
 mod path;
 mod same;
@@ -13,6 +14,7 @@ mod walk_tests;
 
 pub use dom_semantics::{Due, Event, EventForm, Flag, Listener};
 pub use events::{EventFault, Events};
+pub use laws::a_walk_steps_to_the_first_listener_that_stands;
 pub use listeners::{ListenerFault, Listeners};
 pub use walk::{Walk, next_listener};
 

@@ -17,6 +17,7 @@ pub mod Grants
 pub mod HostCells
 pub mod Listeners
 pub mod Names
+pub mod NextListener
 pub mod NodeReplies
 pub mod Plays
 pub mod Queries
