@@ -63,10 +63,10 @@ the_pages = record {
   titled = (
     true,
     grammar.top_element
-        (grammar.text_element {raw = codes "&lt;" ++ (13 ∷ (10 ∷ []))} {at_end = codes "</title>"} {t = record { name = codes "title"; attributes = [] }}
+        (grammar.text_element {raw = codes "&lt;" ++ (13 ∷ (10 ∷ []))} {at_end = codes "</title>"} {t = record { name = codes "title"; attributes = [] }} {entities = true}
         (record { shallow = omega arith; few = omega arith })
         (plain_tag (codes "title") (codes "&lt;" ++ (13 ∷ (10 ∷ codes "</title>"))) refl (refl, (refl, (refl, (refl, (refl, tt))))))
-        (short (codes "title") (omega arith)) grammar.title
+        (short (codes "title") (omega arith)) refl
         (record { whole = refl; nowhere = (refl, (refl, (refl, (refl, (refl, (refl, tt)))))); stop = inr refl })
         (grammar.filled {content = 60 ∷ (10 ∷ [])} (omega arith) (record { shallow = omega arith; few = omega arith })
         (with_entities {lines = codes "&lt;" ++ 10 ∷ []} (in_line refl (in_line refl (in_line refl (in_line refl (return_and_line_feed no_line)))))
@@ -149,7 +149,7 @@ the_faults = record {
   };
   innermost = record {
     has_element = true;
-    open_there = opening (codes "<p>") (plain (codes "p")) ∷ opening (codes "<a><p>") (plain (codes "a")) ∷ [];
+    open_there = opening 2 (codes "<p>") (plain (codes "p")) ∷ opening 1 (codes "<a><p>") (plain (codes "a")) ∷ [];
     rest = [];
     reached = places.in_element {at = codes "<a><p>"} grammar.top_end (a_opens 1 (codes "<p>") refl)
         (places.deeper {at = codes "<p>"} {nodes = NoNodes} grammar.no_more (record {
@@ -158,18 +158,18 @@ the_faults = record {
           short = short (codes "p") (omega arith);
           normal = refl;
         }) (places.here grammar.no_more));
-    stands = faults.unclosed (opening (codes "<p>") (plain (codes "p"))) refl refl;
+    stands = faults.unclosed (opening 2 (codes "<p>") (plain (codes "p"))) refl refl;
   };
   other_name = record {
     has_element = true;
-    open_there = opening (codes "<a></b>") (plain (codes "a")) ∷ [];
+    open_there = opening 1 (codes "<a></b>") (plain (codes "a")) ∷ [];
     rest = codes "</b>";
     reached = places.in_element {at = codes "<a></b>"} grammar.top_end (a_opens 1 (codes "</b>") refl) (places.here grammar.no_more);
     stands = faults.wrong_end (plain_end (codes "b") [] refl (refl, tt)) (λ e. absurd (omega (arith, other_bytes 97 98 [] [] e)));
   };
   other_byte = record {
     has_element = true;
-    open_there = opening (codes "<a></b x>") (plain (codes "a")) ∷ [];
+    open_there = opening 1 (codes "<a></b x>") (plain (codes "a")) ∷ [];
     rest = codes "</b x>";
     reached = places.in_element {at = codes "<a></b x>"} grammar.top_end (a_opens 1 (codes "</b x>") refl) (places.here grammar.no_more);
     stands = faults.in_end_tag refl (faults.end_breaks_off (record {
