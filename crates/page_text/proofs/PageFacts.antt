@@ -10,9 +10,9 @@ use Rattle.page_text.specs.PageSpelling.{AreAll, Run, Space, is_unquoted, no_lin
 use Rattle.page_text.specs.PageSpelling.{itself, lt, as_it_stands, with_entities}
 use Rattle.page_text.specs.PageTags as tags
 use Rattle.page_text.specs.PageTags.{StartTag, IsStartTag, IsEndTag, IsShort}
-use Rattle.page_text.specs.PageNodes.{NoNodes}
+use Rattle.page_text.specs.PageNodes.{NoNodes, Element}
 use Rattle.page_text.specs.PageGrammar as grammar
-use Rattle.page_text.specs.PageGrammar.{HasRoom, is_normal}
+use Rattle.page_text.specs.PageGrammar.{HasRoom, is_normal, IsTop}
 use Rattle.page_text.specs.PageOpen as places
 use Rattle.page_text.specs.PageOpen.{Opens, opening}
 use Rattle.page_text.specs.PageFaults as faults
@@ -137,6 +137,13 @@ no_end_tag more name (tags.end_tag {inside = inside} {raw = raw} {after_name = a
     let last : 62 ∷ [] ≡ 120 ∷ more = (run_once is_white_space after_name gap (62 ∷ []) (codes " ") (codes "x" ++ more) space blank).1 in
     absurd (omega (arith, other_bytes 62 120 [] more last))
 
+-- a `br` alone at the top
+a_break : (rest : Bytes) → IsTop false 1 (codes "<br>" ++ rest) (Element (codes "br") [] NoNodes NoNodes) true rest
+unfolding chars encode_utf8
+a_break rest =
+    grammar.top_element
+    (grammar.void_element {t = plain (codes "br")} (record { shallow = omega arith; few = omega arith }) (br_tag rest) (short (codes "br") (omega arith)) refl grammar.no_more) grammar.top_end
+
 pub the_faults : AreFaults
 unfolding chars encode_utf8
 the_faults = record {
@@ -189,5 +196,57 @@ the_faults = record {
       );
       over = λ more h. no_end_tag more h.0 h.1;
     }));
+  };
+  nothing_begins = record {
+    has_element = false;
+    open_there = [];
+    rest = codes "<!x";
+    reached = places.at_top grammar.top_end;
+    stands = faults.bad_markup refl refl;
+  };
+  late = record {
+    has_element = true;
+    open_there = [];
+    rest = codes "<!doctype a>";
+    reached = places.at_top (a_break (codes "<!doctype a>"));
+    stands = faults.late_doctype refl refl;
+  };
+  endless_doctype = record {
+    has_element = false;
+    open_there = [];
+    rest = codes "<!doctype a";
+    reached = places.at_top grammar.top_end;
+    stands = faults.no_doctype_end refl refl (refl, (refl, (refl, (refl, (refl, (refl, (refl, (refl, (refl, (refl, (refl, tt)))))))))));
+  };
+  text = record {
+    has_element = false;
+    open_there = [];
+    rest = codes "a";
+    reached = places.at_top (grammar.white_space {gap = codes " "} {behind = codes "a"} (run_of is_white_space (codes " ") (codes "a") (refl, tt) refl) (omega arith) grammar.top_end);
+    stands = faults.text_at_top refl refl refl;
+  };
+  second = record {
+    has_element = true;
+    open_there = [];
+    rest = codes "<br>";
+    reached = places.at_top (a_break (codes "<br>"));
+    stands = faults.second_element refl refl;
+  };
+  endless_comment = record {
+    has_element = false;
+    open_there = [];
+    rest = codes "<!--a--";
+    reached = places.at_top grammar.top_end;
+    stands = faults.in_comment (record { shallow = omega arith; few = omega arith }) (faults.no_comment_end (codes "a--") refl (refl, (refl, (refl, tt))));
+  };
+  endless_title = record {
+    has_element = false;
+    open_there = [];
+    rest = codes "<title></a>";
+    reached = places.at_top grammar.top_end;
+    stands = faults.in_element refl refl (record { shallow = omega arith; few = omega arith })
+        (faults.in_text {t = plain (codes "title")} {inside = codes "</a>"} {entities = true}
+        (plain_tag (codes "title") (codes "</a>") refl (refl, (refl, (refl, (refl, (refl, tt)))))) (short (codes "title") (omega arith)) refl
+        (faults.no_end_tag (λ h. record { shallow = omega arith; few = omega arith }) (refl, (refl, (refl, (refl, tt))))));
   };
 }

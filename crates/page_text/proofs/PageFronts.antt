@@ -16,7 +16,7 @@ use Rattle.page_text.proofs.PageTagsWhole.{BeginsStart}
 
 -- ---- the front by what stands there
 
-abbrev chosen : (e c d t s l x : Bool) → Front
+abbrev pub chosen : (e c d t s l x : Bool) → Front
 chosen e c d t s l x = cond e nothing (cond c comment (cond d doctype (cond t start_tag (cond s (cond l end_tag bad) (cond x bad run)))))
 
 -- the numbers of the fronts
@@ -224,3 +224,14 @@ pub run_begins : (text : Bytes) → front_of text ≡ run → begins_text text �
 run_begins [] h = absurd (not_both (run_found [] h).some)
 run_begins (b ∷ []) h = none_behind (b == 60)
 run_begins (b ∷ (c ∷ cs)) h = let is = run_found (b ∷ (c ∷ cs)) h in no_markup_in (b == 60) (is_letter c) (c == 47) (c == 33) is.no_start is.no_slash is.no_mark
+
+-- ---- what stands there, as the model sees it
+
+pub begun_start : (text : Bytes) → begins_start_tag text ≡ true → BeginsStart text
+begun_start [] h = absurd (not_both (sym h))
+begun_start (b ∷ bs) h = let both = and_parts (b == 60) (begins is_letter bs) h in record { mark = sees_cons 60 (b ∷ bs) both.0; letter = both.1 }
+
+pub begun_end : (text : Bytes) → begins_end_tag text ≡ true → begins is_letter (drop 2 text) ≡ true
+begun_end [] h = absurd (not_both (sym h))
+begun_end (b ∷ []) h = absurd (not_both (sym h))
+begun_end (b ∷ (c ∷ cs)) h = (and_parts ((b == 60) && (c == 47)) (begins is_letter cs) h).1

@@ -54,12 +54,12 @@ no_script tag others true e h = absurd (not_both h)
 no_script tag others false e h = refl
 
 -- the end tag of such an element makes nothing
-no_end : (tag : List ℕ) (all : List Attribute) (inside : Nodes) → is_normal tag ≡ true → made_at_end tag all inside ≡ []
+pub no_end : (tag : List ℕ) (all : List Attribute) (inside : Nodes) → is_normal tag ≡ true → made_at_end tag all inside ≡ []
 no_end tag all inside h =
     let holder = (or_parts (is_void tag) (is_text_holder tag) (not_true (is_void tag || is_text_holder tag) h)).1 in
     rw (no_script tag _ (is_named (codes "script") tag) refl holder) refl
 
-made_in : (parent : Thing) (m : ℕ) (t : StartTag) (inside : Nodes) → is_normal (tag_of t) ≡ true
+pub made_in : (parent : Thing) (m : ℕ) (t : StartTag) (inside : Nodes) → is_normal (tag_of t) ≡ true
     → made_of parent m (begun t inside) ≡ map Build (element_writes m parent (tag_of t) (attributes_of t)) ++ made_of (thing_of kind.Element m) (suc m) inside
 made_in parent m t inside normal =
     let writes = map Build (element_writes m parent (tag_of t) (attributes_of t)) in

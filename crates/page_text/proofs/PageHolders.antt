@@ -12,6 +12,7 @@ use Rattle.page_text.specs.declared.scan.Raw.{Raw}
 use Rattle.page_text.specs.declared.scan.Raw.TheVariants.{Script, Style, Title, Textarea}
 use Rattle.page_text.specs.Bytes.{Bytes, is_letter, is_name_byte, begins, opens, lowered}
 use Rattle.page_text.specs.ScansModel.{raw_name}
+use Rattle.page_text.specs.ValuesModel.{spells}
 use Rattle.page_text.specs.Nodes.{is_named, is_void, raw_of}
 use Rattle.page_text.specs.PageSpelling.{AreAll, Run}
 use Rattle.page_text.specs.PageTags.{StartTag, IsStartTag, start_tag, IsEndTag, end_tag, tag_of}
@@ -39,7 +40,7 @@ name_encoded text rest _ (start_tag {raw = raw} e letter run all end) = encodes-
 
 -- ---- kinds of elements
 
-named_word : (word tag : List ℕ) → is_named word tag ≡ true → encode_utf8_all tag ≡ word
+pub named_word : (word tag : List ℕ) → is_named word tag ≡ true → encode_utf8_all tag ≡ word
 named_word word tag h = (bytes_eq-Decides (encode_utf8_all tag) word).0 h
 
 -- whether entities are read
@@ -171,3 +172,11 @@ end_letter name (b ∷ []) small some h = absurd (not_both (sym h))
 end_letter name (b ∷ (c ∷ bs)) small some h =
     let both = and_parts ((b == 60) && (c == 47)) (opens name bs && begins is_behind_name (drop (length name) bs)) h in
     first_letter name bs small some (and_parts (opens name bs) (begins is_behind_name (drop (length name) bs)) both.1).0
+
+-- `</` stands there
+pub end_mark : (name text : Bytes) → begins_end_of name text ≡ true → spells (60 ∷ (47 ∷ [])) text ≡ true
+end_mark name [] h = absurd (not_both (sym h))
+end_mark name (b ∷ []) h = absurd (not_both (sym h))
+end_mark name (b ∷ (c ∷ bs)) h =
+    let two = and_parts (b == 60) (c == 47) (and_parts ((b == 60) && (c == 47)) (opens name bs && begins is_behind_name (drop (length name) bs)) h).0 in
+    rw (two.0, two.1) refl

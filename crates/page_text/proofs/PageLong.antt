@@ -38,7 +38,7 @@ value_behind at raw here rest (unquoted n run some) = behind_shorter at raw rest
 
 -- ---- a short attribute has no long part
 
-lowered_length : (raw : Bytes) → length (lowered raw) ≡ length raw
+pub lowered_length : (raw : Bytes) → length (lowered raw) ≡ length raw
 lowered_length raw = length-map raw to_ascii_lowercase
 
 pub short_no_long : (here behind other : Bytes) (a : ReadAttribute) → IsAttribute here a behind → length a.name ≤ TEXT_LIMIT → length a.value ≤ TEXT_LIMIT → LongInAttribute here other → ⊥

@@ -38,7 +38,7 @@ pub end_kind : (text name rest : Bytes) → IsEndTag text name rest → kind_at 
 unfolding kind_at behind_mark
 end_kind text _ rest (tags.end_tag e letter run space) = rw e refl
 
-no_letter : (c d : ℕ) (v : Bool) → (c == d) ≡ v → is_letter d ≡ false → is_letter c ≡ true → v ≡ false
+pub no_letter : (c d : ℕ) (v : Bool) → (c == d) ≡ v → is_letter d ≡ false → is_letter c ≡ true → v ≡ false
 no_letter c d true h n letter = absurd (not_both (sym letter ∙ (ap is_letter (eqb-true c d h) ∙ n)))
 no_letter c d false h n letter = refl
 

@@ -41,14 +41,14 @@ use Rattle.page_text.proofs.PageSteps.{grow_element}
 
 -- ---- what is inside
 
-raw_read : (raw : Raw) (content : Bytes) → IsRead (reads_entities raw) content (read_raw raw content)
+pub raw_read : (raw : Raw) (content : Bytes) → IsRead (reads_entities raw) content (read_raw raw content)
 raw_read kinds.Script content = as_it_stands (line_ends_here content)
 raw_read kinds.Style content = as_it_stands (line_ends_here content)
 raw_read kinds.Title content = value_here content
 raw_read kinds.Textarea content = value_here content
 
 -- nothing is read as nothing
-raw_nothing : (raw : Raw) → read_raw raw [] ≡ []
+pub raw_nothing : (raw : Raw) → read_raw raw [] ≡ []
 unfolding with_line_ends unescaped_past
 raw_nothing kinds.Script = refl
 raw_nothing kinds.Style = refl
@@ -61,10 +61,10 @@ inside_of true shown = NoNodes
 inside_of false shown = Text shown NoNodes
 
 -- what the grammar reads inside
-record IsRawRead (raw : Raw) (depth number : ℕ) (text : Bytes) (shown : List ℕ) : Type 0 where
-  inside : IsTextInside (reads_entities raw) depth number (before (stops (AtEndOf raw)) text) (inside_of (is_empty (before (stops (AtEndOf raw)) text)) shown)
-  some : is_empty (from (stops (AtEndOf raw)) text) ≡ false
-  same : text_inside (inside_of (is_empty (before (stops (AtEndOf raw)) text)) shown) ≡ shown
+pub record IsRawRead (raw : Raw) (depth number : ℕ) (text : Bytes) (shown : List ℕ) : Type 0 where
+  pub inside : IsTextInside (reads_entities raw) depth number (before (stops (AtEndOf raw)) text) (inside_of (is_empty (before (stops (AtEndOf raw)) text)) shown)
+  pub some : is_empty (from (stops (AtEndOf raw)) text) ≡ false
+  pub same : text_inside (inside_of (is_empty (before (stops (AtEndOf raw)) text)) shown) ≡ shown
 
 inside_nodes : (raw : Raw) (depth number : ℕ) (content : Bytes) (shown : List ℕ) → (is_empty content ≡ false → HasRoom depth number) → length (read_raw raw content) ≤ TEXT_LIMIT
     → shown ≡ chars (read_raw raw content) → IsTextInside (reads_entities raw) depth number content (inside_of (is_empty content) shown)
@@ -78,7 +78,7 @@ unfolding inside_of
 inside_same raw [] shown e = sym no_chars ∙ (sym (ap chars (raw_nothing raw)) ∙ sym e)
 inside_same raw (b ∷ bs) shown e = refl
 
-room_in : (next depth d n : ℕ) (text : Bytes) → d ≡ suc (suc depth) → n ≡ suc next → room_at (next + 1) (depth + 1) text ≡ Ok tt → HasRoom d n
+pub room_in : (next depth d n : ℕ) (text : Bytes) → d ≡ suc (suc depth) → n ≡ suc next → room_at (next + 1) (depth + 1) text ≡ Ok tt → HasRoom d n
 room_in next depth d n text e f h =
     let r = room_ok (next + 1) (depth + 1) text h in
     record { shallow = omega (arith, r.shallow, e); few = omega (arith, r.few, f) }
@@ -97,7 +97,7 @@ inside_rest raw start text content rest shown false e h = let c = checked_ok (re
 unit_same : (u : Unit {0}) → u ≡ tt
 unit_same u = refl
 
-inside_read : (raw : Raw) (next depth d n : ℕ) (start text : Bytes) (shown : List ℕ) → d ≡ suc (suc depth) → n ≡ suc next → inside_at next depth raw start text ≡ Ok shown → IsRawRead raw d n text shown
+pub inside_read : (raw : Raw) (next depth d n : ℕ) (start text : Bytes) (shown : List ℕ) → d ≡ suc (suc depth) → n ≡ suc next → inside_at next depth raw start text ≡ Ok shown → IsRawRead raw d n text shown
 unfolding inside_at
 inside_read raw next depth d n start text shown e f h =
     let content = before (stops (AtEndOf raw)) text in
@@ -113,13 +113,13 @@ inside_read raw next depth d n start text shown e f h =
 -- ---- what is made
 
 -- what the end tag of such an element makes
-ended_by : Raw → List Attribute → List ℕ → List Made
+pub ended_by : Raw → List Attribute → List ℕ → List Made
 ended_by kinds.Script all shown = cond (is_runnable all) (tree.Script shown ∷ []) (external_of (value_of (codes "src") all))
 ended_by kinds.Style all shown = []
 ended_by kinds.Title all shown = []
 ended_by kinds.Textarea all shown = []
 
-at_end : (raw : Raw) (tag : List ℕ) (all : List Attribute) (inside : Nodes) (shown : List ℕ) → encode_utf8_all tag ≡ raw_name raw → text_inside inside ≡ shown
+pub at_end : (raw : Raw) (tag : List ℕ) (all : List Attribute) (inside : Nodes) (shown : List ℕ) → encode_utf8_all tag ≡ raw_name raw → text_inside inside ≡ shown
     → made_at_end tag all inside ≡ ended_by raw all shown
 unfolding ended_by
 at_end kinds.Script tag all inside shown e f = rw e (ap (λ x. cond (is_runnable all) (tree.Script x ∷ []) (external_of (value_of (codes "src") all))) f)
@@ -128,11 +128,11 @@ at_end kinds.Title tag all inside shown e f = rw e refl
 at_end kinds.Textarea tag all inside shown e f = rw e refl
 
 -- the requests for the text inside
-inside_writes : Bool → ℕ → List ℕ → List Request
+pub inside_writes : Bool → ℕ → List ℕ → List Request
 inside_writes true number shown = []
 inside_writes false number shown = text_writes (suc number) (thing_of kind.Element number) shown
 
-made_inside : (v : Bool) (number : ℕ) (shown : List ℕ) → made_of (thing_of kind.Element number) (suc number) (inside_of v shown) ≡ map Build (inside_writes v number shown)
+pub made_inside : (v : Bool) (number : ℕ) (shown : List ℕ) → made_of (thing_of kind.Element number) (suc number) (inside_of v shown) ≡ map Build (inside_writes v number shown)
 unfolding inside_of inside_writes
 made_inside true number shown = refl
 made_inside false number shown = append-nil (map Build (text_writes (suc number) (thing_of kind.Element number) shown))
@@ -196,11 +196,11 @@ module _ (text : Bytes) (done : List Piece) (f : State) where
 
 -- ---- the step
 
-stop_there : (q : Bytes → Bool) (rest : Bytes) → (rest ≡ []) ⊎ (q rest ≡ true) → is_empty rest ≡ false → q rest ≡ true
+pub stop_there : (q : Bytes → Bool) (rest : Bytes) → (rest ≡ []) ⊎ (q rest ≡ true) → is_empty rest ≡ false → q rest ≡ true
 stop_there q rest (inl e) some = absurd (not_both (sym (ap is_empty e) ∙ some))
 stop_there q rest (inr e) some = e
 
-raw_some : (raw : Raw) → 0 < length (raw_name raw)
+pub raw_some : (raw : Raw) → 0 < length (raw_name raw)
 raw_some kinds.Script = omega arith
 raw_some kinds.Style = omega arith
 raw_some kinds.Title = omega arith

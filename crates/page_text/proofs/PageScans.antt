@@ -96,7 +96,7 @@ mark_at b w true u e f small = refl
 mark_at b w false true e f small = grind (arith, nat_tests)
 mark_at b w false false e f small = refl
 
-same_mark : (b w : ℕ) → w < 65 → (to_ascii_lowercase b == w) ≡ (b == w)
+pub same_mark : (b w : ℕ) → w < 65 → (to_ascii_lowercase b == w) ≡ (b == w)
 same_mark b w small = mark_at b w (nat_lt b 65) (nat_lt b 91) refl refl small
 
 comment_end_same : (text : Bytes) → stops AtCommentEnd text ≡ begins_comment_end text

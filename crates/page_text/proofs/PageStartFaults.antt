@@ -43,11 +43,11 @@ letter_name : (text : Bytes) → begins is_letter text ≡ true → begins is_na
 letter_name [] h = h
 letter_name (b ∷ bs) h = rw h refl
 
-letter_on : (raw after y : Bytes) → begins is_letter (raw ++ after) ≡ true → begins is_name_byte after ≡ false → begins is_letter (raw ++ y) ≡ true
+pub letter_on : (raw after y : Bytes) → begins is_letter (raw ++ after) ≡ true → begins is_name_byte after ≡ false → begins is_letter (raw ++ y) ≡ true
 letter_on [] after y h n = absurd (not_both (sym (letter_name after h) ∙ n))
 letter_on (b ∷ raw) after y h n = h
 
-name_kept : (used mid y : Bytes) → Keeps mid y → begins is_name_byte (used ++ mid) ≡ false → begins is_name_byte (used ++ y) ≡ false
+pub name_kept : (used mid y : Bytes) → Keeps mid y → begins is_name_byte (used ++ mid) ≡ false → begins is_name_byte (used ++ y) ≡ false
 name_kept [] mid y k h = k.tag_name h
 name_kept (b ∷ used) mid y k h = h
 

@@ -11,6 +11,7 @@ use Rattle.page_text.specs.declared.pieces.Piece.{Piece}
 use Rattle.page_text.specs.Bytes.{Bytes}
 use Rattle.page_text.specs.Outcomes.{Outcome}
 use Rattle.page_text.specs.Nodes.{the_document}
+pub use Rattle.page_text.specs.PageReading.{open_as, listed, IsState}
 use Rattle.page_text.specs.StepsModel.{Open, State, Stepped, Next, Script, End, innermost, outer, parent_of, room_at}
 use Rattle.page_text.specs.PageNodes.{Nodes, count, Made, Build, cut, made_of, pieces_of}
 use Rattle.page_text.specs.PageGrammar.{HasRoom, IsDocument}
@@ -23,14 +24,6 @@ use Rattle.page_text.proofs.PageTagsRead.{err_ok, err_same}
 
 -- ---- the open elements
 
-abbrev pub open_as : Opening → Open
-open_as o = record { start = o.start; tag = o.name; number = o.number }
-
--- as the model keeps them, the innermost last
-abbrev pub listed : List Opening → List Open
-listed [] = []
-listed (o ∷ others) = listed others ++ open_as o ∷ []
-
 last_get : {A : Type 0} (xs : List A) (x : A) → slice_get (xs ++ x ∷ []) (length xs) ≡ Some x
 last_get [] x = refl
 last_get (y ∷ xs) x = last_get xs x
@@ -38,12 +31,17 @@ last_get (y ∷ xs) x = last_get xs x
 before_last : {A : Type 0} (xs : List A) (x : A) → length (xs ++ x ∷ []) - 1 ≡ length xs
 before_last xs x = omega (arith, length-append xs (x ∷ []))
 
+pub innermost_last : (os : List Open) (o : Open) → innermost (os ++ o ∷ []) ≡ Some o
+innermost_last os o = ap (slice_get (os ++ o ∷ [])) (before_last os o) ∙ last_get os o
+
+pub outer_last : (os : List Open) (o : Open) → outer (os ++ o ∷ []) ≡ os
+outer_last os o = ap (λ n. take n (os ++ o ∷ [])) (before_last os o) ∙ take-append_seam os (o ∷ [])
+
 pub innermost_listed : (o : Opening) (others : List Opening) → innermost (listed (o ∷ others)) ≡ Some (open_as o)
-innermost_listed o others = ap (slice_get (listed others ++ open_as o ∷ [])) (before_last (listed others) (open_as o)) ∙ last_get (listed others) (open_as o)
+innermost_listed o others = innermost_last (listed others) (open_as o)
 
 pub outer_listed : (o : Opening) (others : List Opening) → outer (listed (o ∷ others)) ≡ listed others
-outer_listed o others =
-    ap (λ n. take n (listed others ++ open_as o ∷ [])) (before_last (listed others) (open_as o)) ∙ take-append_seam (listed others) (open_as o ∷ [])
+outer_listed o others = outer_last (listed others) (open_as o)
 
 pub listed_length : (os : List Opening) → length (listed os) ≡ length os
 listed_length [] = refl
@@ -89,15 +87,6 @@ unfolding room_at
 room_err next depth text fault h = room_err_at next depth text fault (nat_le NODE_LIMIT next) (nat_le DEPTH_LIMIT depth) refl refl h
 
 -- ---- the state
-
--- The model is at a place of the page, behind these whole pieces.
-pub record IsState (text : Bytes) (done : List Piece) (s : State) : Type 0 where
-  pub nodes : Nodes
-  pub open_there : List Opening
-  pub reached : IsOpenAt text s.begun open_there nodes s.rest
-  pub same_open : s.open_elements ≡ listed open_there
-  pub next : s.next ≡ suc (count nodes)
-  pub made : cut (made_of the_document 1 nodes) ≡ done ++ (record { writes = s.writes; script = None; external = s.external }) ∷ []
 
 -- the piece that ends there, and what is kept behind it
 abbrev pub piece_at : Option (List ℕ) → State → Piece

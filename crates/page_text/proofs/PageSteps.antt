@@ -79,7 +79,7 @@ empty_length [] h = refl
 empty_length (o ∷ others) h = absurd (not_both (sym h))
 
 -- what is open inside an element isn't empty
-never_top : (outer : Opening) (os : List Opening) (number : ℕ) (text rest : Bytes) (nodes : Nodes) → IsInside (outer ∷ []) number text nodes os rest → is_top os ≡ false
+pub never_top : (outer : Opening) (os : List Opening) (number : ℕ) (text rest : Bytes) (nodes : Nodes) → IsInside (outer ∷ []) number text nodes os rest → is_top os ≡ false
 never_top outer [] number text rest nodes is = absurd (omega (arith, inside_length (outer ∷ []) [] number text rest nodes is))
 never_top outer (o ∷ others) number text rest nodes is = refl
 

@@ -207,7 +207,7 @@ pub no_chars : chars [] ≡ []
 unfolding chars
 no_chars = refl
 
-equals_here : (text : Bytes) → sees 61 (after_space text) ≡ true → IsEquals text (after_space (drop 1 (after_space text)))
+pub equals_here : (text : Bytes) → sees 61 (after_space text) ≡ true → IsEquals text (after_space (drop 1 (after_space text)))
 equals_here text e =
     equals {before = before (stops AfterSpace) text} {behind = drop 1 (after_space text)}
     (subst (λ x. Space text (before (stops AfterSpace) text) x) (sees_cons 61 (after_space text) e) (space_here text)) (space_here (drop 1 (after_space text)))
