@@ -3,6 +3,7 @@ use Rattle.std.proofs.Common.{◌≡◌, ℕ, suc, ◌+◌, ◌<◌, ◌≤◌, 
 use Rattle.std.specs.Prelude.{◌&&◌, ◌||◌, ◌==◌, encode_utf8_all}
 use Rattle.std.specs.Str.{chars, bytes_eq}
 use Rattle.std.proofs.lemmas.Bool.{or_parts}
+use Rattle.std.proofs.lemmas.Bool.Decides.{nat_tests}
 use Rattle.std.proofs.lemmas.Slice.Eq.{bytes_eq-Decides}
 use Rattle.door.specs.declared.requests.Request.{Request}
 use Rattle.door.specs.declared.values.Kind.TheVariants as kind
@@ -87,7 +88,7 @@ module _ (s : State) (one : StartTag) (inside_text : Bytes) (is : IsStartTag s.r
   inner_there = top_at (length (s.open_elements ++ open_one ∷ [])) (omega (arith, length-append s.open_elements (open_one ∷ [])))
     where
       top_at : (n : ℕ) → 0 < n → (n == 0) ≡ false
-      top_at n some = grind (arith)
+      top_at n some = grind (arith, nat_tests)
 
   -- the requests for the element, and those inside it
   pub made_there : (ms : List Made) (done : List Piece) → cut ms ≡ done ++ piece_at None s ∷ []
@@ -96,11 +97,11 @@ module _ (s : State) (one : StartTag) (inside_text : Bytes) (is : IsStartTag s.r
 
   -- behind the end tag
   module _ (inside : Nodes) (at_end_tag behind : Bytes) (r : Reaches opened_there inside at_end_tag) (end : IsEndTag at_end_tag one.name behind) where
-    closed_there : State
+    abbrev closed_there : State
     closed_there = record r.last { rest = behind; open_elements = outer r.last.open_elements }
 
     end_named_there : m.ended r.last one.name behind (innermost r.last.open_elements) ≡ Ok closed_there
-    unfolding m.ended closed_there
+    unfolding m.ended
     end_named_there =
         let name : bytes_eq (lowered (name_of (drop 1 s.rest))) one.name ≡ true = (bytes_eq-Decides _ _).1 (sym (name_read s.rest inside_text one is)) in
         rw (r.same_open, innermost_last s.open_elements open_one, name) refl
@@ -114,7 +115,6 @@ module _ (s : State) (one : StartTag) (inside_text : Bytes) (is : IsStartTag s.r
 
     pub element_reached : HasRoom (suc (length s.open_elements)) s.next → IsShort one → (is_at_top s && s.begun) ≡ false
         → Reaches s (Element (tag_of one) (attributes_of one) inside NoNodes) behind
-    unfolding closed_there
     element_reached free short may =
         let ws = element_writes s.next (parent s) (tag_of one) (attributes_of one) in
         record {

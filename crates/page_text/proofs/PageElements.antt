@@ -38,7 +38,6 @@ use Rattle.page_text.proofs.PageSteps.{grown_as, grow_element}
 
 module _ (text : Bytes) (done : List Piece) (s : State) (i : IsState text done s) (t : Tag) (read : IsTagRead s.rest t) (may : may_begin s.begun i.open_there ≡ true)
     (room_is : HasRoom (suc (length i.open_there)) (suc (count i.nodes))) where
-
   -- the requests for the element, as the model makes them
   writes_are : s.writes ++ element_writes s.next (parent s) t.name t.attributes
       ≡ s.writes ++ element_writes (suc (count i.nodes)) (parent_in i.open_there) (tag_of read.one) (attributes_of read.one)

@@ -10,7 +10,7 @@ use Rattle.page_text.specs.declared.faults.PageKind.{PageKind}
 use Rattle.page_text.specs.declared.faults.PageKind.TheVariants.{TooLong, Unclosed, BadTag, WrongEnd}
 use Rattle.page_text.specs.declared.scan.Raw.{Raw}
 use Rattle.page_text.specs.declared.scan.Stop.TheVariants.{AtByte, AtMarkup, AtCommentEnd}
-use Rattle.page_text.specs.Bytes.{Bytes, begins, sees}
+use Rattle.page_text.specs.Bytes.{Bytes, is_letter, begins, sees}
 use Rattle.page_text.specs.ScansModel.{before, from, stops, raw_name}
 use Rattle.page_text.specs.ValuesModel.{spells, with_line_ends, read_value, unescaped_past}
 use Rattle.page_text.specs.Outcomes.{Outcome, ◌>>=◌, checked}
@@ -71,7 +71,7 @@ end_slash : (text : Bytes) → begins_end_tag text ≡ true → spells (60 ∷ (
 end_slash [] h = absurd (not_both (sym h))
 end_slash (b ∷ []) h = absurd (not_both (sym h))
 end_slash (b ∷ (c ∷ cs)) h =
-    let two = and_parts (b == 60) (c == 47) (and_parts ((b == 60) && (c == 47)) (begins _ cs) h).0 in
+    let two = and_parts (b == 60) (c == 47) (and_parts ((b == 60) && (c == 47)) (begins is_letter cs) h).0 in
     rw (two.0, two.1) refl
 
 nothing_read : read_value [] ≡ []
@@ -180,8 +180,8 @@ module _ (s : State) where
       let k = raw_again (tag_of one) entities holds in
       let name : one.name ≡ raw_name k.raw = sym (name_encoded s.rest inside one is) ∙ k.named in
       let within : TextInsideFault (reads_entities k.raw) (suc (suc (length s.open_elements))) (suc s.next) s.rest (raw_name k.raw) inside kind place =
-          subst (λ x. TextInsideFault (reads_entities k.raw) (suc (suc (length s.open_elements))) (suc s.next) s.rest x inside kind place) name
-          (subst (λ v. TextInsideFault v (suc (suc (length s.open_elements))) (suc s.next) s.rest one.name inside kind place) (sym k.reads) fault) in
+      subst (λ x. TextInsideFault (reads_entities k.raw) (suc (suc (length s.open_elements))) (suc s.next) s.rest x inside kind place) name
+      (subst (λ v. TextInsideFault v (suc (suc (length s.open_elements))) (suc s.next) s.rest one.name inside kind place) (sym k.reads) fault) in
       element_told (kind, place) (read_tag s one inside) free (start_again s.rest inside one is short)
       (rw (k.no_void, k.is) (raw_refused_again s (read_tag s one inside) k.raw kind place within))
 

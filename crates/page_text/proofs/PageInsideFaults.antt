@@ -1,7 +1,7 @@
 -- What has a fault by the grammar inside an element whose content is one text, the model refuses by this fault.
 use Rattle.std.proofs.Common.{◌≡◌, ℕ, suc, ◌+◌, ◌<◌, ◌≤◌, ◌⊎◌, inl, inr, Bool, true, false, cond, nat_lt, List, [], ◌∷◌, ◌++◌, Option, Some, None, Ok, Err, length, drop, refl, ap, sym, ◌∙◌, subst, arith, add-one, append-nil, length-append}
 use Rattle.std.proofs.Common.{ltb}
-use Rattle.std.proofs.lemmas.Bool.Decides.{nat_tests}
+use Rattle.std.proofs.lemmas.Bool.{lt-ltb}
 use Rattle.base_text.specs.declared.text.TheConstants.{TEXT_LIMIT}
 use Rattle.page_text.specs.declared.faults.PageKind.{PageKind}
 use Rattle.page_text.specs.declared.faults.PageKind.TheVariants.{TooLong, Unclosed}
@@ -25,15 +25,12 @@ use Rattle.page_text.proofs.PageHolders.{reads_entities, raw_small, end_mark, en
 use Rattle.page_text.proofs.PageEndFaults.{end_refused}
 use Rattle.page_text.proofs.PageRaws.{raw_nothing, raw_some}
 use Rattle.page_text.proofs.PageRoom.{room_again, no_room_again}
-use Rattle.page_text.proofs.PageRawRuns.{same_read, inside_is, IsInside}
-
-over_limit : (limit n : ℕ) → limit < n → nat_lt limit n ≡ true
-over_limit limit n h = grind (arith, nat_tests)
+use Rattle.page_text.proofs.PageRawRuns.{same_read, inside_is, IsContent}
 
 -- a text that is too long
 pub checked_long : (read at : Bytes) → TEXT_LIMIT < length read → checked read at ≡ Err (TooLong, at)
 unfolding checked
-checked_long read at h = rw (over_limit TEXT_LIMIT (length read) h) refl
+checked_long read at h = rw (lt-ltb TEXT_LIMIT (length read) h) refl
 
 module _ (raw : Raw) (next depth : ℕ) (start inside : Bytes) where
   content : Bytes
@@ -120,9 +117,12 @@ module _ (raw : Raw) (next depth : ℕ) (start inside : Bytes) where
   unfolding rest
   read_inside text at_end nodes up ends within =
       let same = front_once (begins_end_of (raw_name raw)) inside content rest text at_end parts up in
-      let is = subst (λ x. IsInside raw (suc (suc depth)) (suc next) x nodes) (sym same.0) (inside_is raw (suc (suc depth)) (suc next) text nodes within) in
-      (_, by_parts (Ok _) (is_empty content) false refl (ap is_empty same.1 ∙ end_there at_end ends)
-      (free_bind (is_empty content) false (Ok _) is.room (checked_again (read_raw raw content) inside is.short)), same.1)
+      let is = subst (λ x. IsContent raw (suc (suc depth)) (suc next) x nodes) (sym same.0) (inside_is raw (suc (suc depth)) (suc next) text nodes within) in (
+        _,
+        by_parts (Ok _) (is_empty content) false refl (ap is_empty same.1 ∙ end_there at_end ends)
+            (free_bind (is_empty content) false (Ok _) is.room (checked_again (read_raw raw content) inside is.short)),
+        same.1,
+      )
 
 -- ---- the step
 

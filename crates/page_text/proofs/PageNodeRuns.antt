@@ -82,14 +82,14 @@ nodes_run depth n text rest _ (void_element {behind = behind} {t = t} {others = 
 nodes_run depth n text rest _ (text_element {raw = raw} {after_start = after} {at_end = at_end} {behind = behind} {t = t} {entities = entities} {inside = inside} {others = others} room is len holds up within tag more) s e d k inner =
     let node = Element (tag_of t) (attributes_of t) inside NoNodes in
     let r = holder_reached s t (room_on s depth n d k room) len (may_inside s inner) entities after raw at_end behind inside (subst (λ x. IsStartTag x t after) (sym e) is) holds up
-        (inside_on s entities depth n raw inside d k within) tag in
+    (inside_on s entities depth n raw inside d k within) tag in
     reaches_joined s node others behind rest r
     (nodes_run depth (suc (n + count inside)) behind rest others more r.last r.same_rest (depth_on s node behind r depth d) (omega (arith, k, r.next)) (inner_on s node behind r false inner))
 nodes_run depth n text rest _ (normal_element {after_start = after} {at_end = at_end} {behind = behind} {t = t} {inside = inside} {others = others} room is len plain within tag more) s e d k inner =
     let node = Element (tag_of t) (attributes_of t) inside NoNodes in
     let start : IsStartTag s.rest t after = subst (λ x. IsStartTag x t after) (sym e) is in
     let deep = nodes_run (suc depth) (suc n) after at_end inside within (opened_there s t after start plain) refl
-        (omega (arith, d, length-append s.open_elements (open_one s t after start plain ∷ []))) (omega (arith, k)) (inner_there s t after start plain) in
+    (omega (arith, d, length-append s.open_elements (open_one s t after start plain ∷ []))) (omega (arith, k)) (inner_there s t after start plain) in
     let r = element_reached s t after start plain inside at_end behind deep tag (room_on s depth n d k room) len (may_inside s inner) in
     reaches_joined s node others behind rest r
     (nodes_run depth (suc (n + count inside)) behind rest others more r.last r.same_rest (depth_on s node behind r depth d) (omega (arith, k, r.next)) (inner_on s node behind r false inner))
@@ -144,7 +144,7 @@ module _ (s : State) (top : s.open_elements ≡ []) where
   top_element_reached n text behind _ _ _ (normal_element {after_start = after} {at_end = at_end} {t = t} {inside = inside} room is len plain within tag no_more) e k fresh =
       let start : IsStartTag s.rest t after = subst (λ x. IsStartTag x t after) (sym e) is in
       let deep = nodes_run 2 (suc n) after at_end inside within (opened_there s t after start plain) refl
-          (omega (arith, depth_top s top, length-append s.open_elements (open_one s t after start plain ∷ []))) (omega (arith, k)) (inner_there s t after start plain) in
+      (omega (arith, depth_top s top, length-append s.open_elements (open_one s t after start plain ∷ []))) (omega (arith, k)) (inner_there s t after start plain) in
       element_reached s t after start plain inside at_end behind deep tag (room_on s 1 n (depth_top s top) k room) len (may_top s fresh)
 
 pub top_run : (h : Bool) (n : ℕ) (text : Bytes) (nodes : Nodes) (k : Bool) (rest : Bytes) → IsTop h n text nodes k rest → (s : State) → s.rest ≡ text → s.open_elements ≡ [] → n ≡ s.next → s.begun ≡ h

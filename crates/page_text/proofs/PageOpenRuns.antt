@@ -30,7 +30,7 @@ pub record Comes (s : State) (makes : List Made) (added : ℕ) (h : Bool) (os : 
   pub same_rest : last.rest ≡ rest
   pub same_open : last.open_elements ≡ listed os
   pub next : last.next ≡ s.next + added
-  pub begun : last.begun ≡ h
+  pub element_begun : last.begun ≡ h
   pub made : (ms : List Made) (done : List Piece) → cut ms ≡ done ++ piece_at None s ∷ [] → cut (ms ++ makes) ≡ (done ++ pieces) ++ piece_at None last ∷ []
 
 comes_on : (s : State) (xs ys : List Made) (c d : ℕ) (g h : Bool) (os ps : List Opening) (mid rest : Bytes) (r : Comes s xs c g os mid) → Comes r.last ys d h ps rest → Comes s (xs ++ ys) (c + d) h ps rest
@@ -41,7 +41,7 @@ comes_on s xs ys c d g h os ps mid rest r q = record {
   same_rest = q.same_rest;
   same_open = q.same_open;
   next = omega (arith, q.next, r.next);
-  begun = q.begun;
+  element_begun = q.element_begun;
   made = λ ms done e.
       ap cut (sym (append_assoc ms xs ys)) ∙ (q.made (ms ++ xs) (done ++ r.pieces) (r.made ms done e) ∙ ap (λ l. l ++ piece_at None q.last ∷ []) (append_assoc done r.pieces q.pieces));
 }
@@ -58,7 +58,7 @@ comes_over s nodes rest h os r same b = record {
   same_rest = r.same_rest;
   same_open = r.same_open ∙ same;
   next = r.next;
-  begun = r.begun ∙ b;
+  element_begun = r.begun ∙ b;
   made = r.made;
 }
 
@@ -75,7 +75,7 @@ comes_in s one inside at n os free is short normal may same k e =
       same_rest = refl;
       same_open = rw same (ap (λ o. listed os ++ o ∷ []) named);
       next = refl;
-      begun = refl;
+      element_begun = refl;
       made = λ ms done f. made_there s one inside is normal ms done f ∙ ap (λ l. l ++ piece_at None (opened_there s one inside is normal) ∷ []) (sym (append-nil done));
     }
 
@@ -98,7 +98,6 @@ module _ (s : State) (before nodes : Nodes) (at inside rest : Bytes) (t : StartT
     (a : Comes s (made_of (parent s) s.next before) (count before) g outer at) (normal : is_normal (tag_of t) ≡ true)
     (b : Comes a.last (map Build (element_writes a.last.next (parent a.last) (tag_of t) (attributes_of t))) 1 true (opening (n + count before) at t ∷ outer) inside)
     (c : Comes b.last (made_of (parent b.last) b.last.next nodes) (count nodes) h open_there rest) (same : s.open_elements ≡ listed outer) where
-
   makes_same : made_of (parent s) s.next before ++ (map Build (element_writes a.last.next (parent a.last) (tag_of t) (attributes_of t)) ++ made_of (parent b.last) b.last.next nodes)
       ≡ made_of (parent s) s.next (joined before (begun t nodes))
   makes_same =
@@ -123,10 +122,10 @@ inside_run outer number text _ open_there rest (deeper {at = at} {inside = insid
     let first = comes_over s before at true outer (nodes_run (suc (length outer)) number text at before is s e (depth_of s outer same) k (inner_of s outer false same inner)) same (rw b refl) in
     let place = number + count before in
     let number_is : place ≡ first.last.next = omega (arith, first.next, k) in
-    let start : IsStartTag first.last.rest t inside = rw first.same_rest opens.tag in
-    let second = comes_in first.last t inside at place outer (room_of first.last (suc (length outer)) place (depth_of first.last outer first.same_open) number_is opens.room) start opens.short opens.normal
-        (and_left (is_at_top first.last) first.last.begun (inner_of first.last outer false first.same_open inner)) first.same_open number_is first.same_rest in
-    let third = inside_run (opening place at t ∷ outer) (suc place) inside nodes open_there rest deep second.last second.same_rest second.same_open (omega (arith, second.next, number_is)) refl second.begun in
+    let tag_is : IsStartTag first.last.rest t inside = rw first.same_rest opens.tag in
+    let second = comes_in first.last t inside at place outer (room_of first.last (suc (length outer)) place (depth_of first.last outer first.same_open) number_is opens.room) tag_is opens.short opens.normal
+    (and_left (is_at_top first.last) first.last.begun (inner_of first.last outer false first.same_open inner)) first.same_open number_is first.same_rest in
+    let third = inside_run (opening place at t ∷ outer) (suc place) inside nodes open_there rest deep second.last second.same_rest second.same_open (omega (arith, second.next, number_is)) refl second.element_begun in
     comes_deep s before nodes at inside rest t outer open_there true true number k first opens.normal second third same
 
 -- ---- a place of a page
@@ -145,10 +144,10 @@ open_run text _ os _ rest (in_element {before = before} {nodes = nodes} {at = at
     let first = top_comes text before false at is in
     let place = suc (count before) in
     let number_is : 1 + count before ≡ first.last.next = omega (arith, first.next) in
-    let start_is : IsStartTag first.last.rest t inside = rw first.same_rest opens.tag in
-    let second = comes_in first.last t inside at (1 + count before) [] (room_of first.last 1 (1 + count before) (depth_of first.last [] first.same_open) number_is (rw at_one opens.room)) start_is opens.short opens.normal
-        (rw first.begun (and_none (is_at_top first.last))) first.same_open number_is first.same_rest in
-    let third = inside_run (opening (1 + count before) at t ∷ []) (suc (1 + count before)) inside nodes os rest (rw at_one deep) second.last second.same_rest second.same_open (omega (arith, second.next, number_is)) refl second.begun in
+    let tag_is : IsStartTag first.last.rest t inside = rw first.same_rest opens.tag in
+    let second = comes_in first.last t inside at (1 + count before) [] (room_of first.last 1 (1 + count before) (depth_of first.last [] first.same_open) number_is (subst (λ k. HasRoom 1 k) (sym at_one) opens.room)) tag_is opens.short opens.normal
+    (rw first.element_begun (and_none (is_at_top first.last))) first.same_open number_is first.same_rest in
+    let third = inside_run (opening (1 + count before) at t ∷ []) (suc (1 + count before)) inside nodes os rest (subst (λ k. IsInside (opening k at t ∷ []) (suc k) inside nodes os rest) (sym at_one) deep) second.last second.same_rest second.same_open (omega (arith, second.next, number_is)) refl second.element_begun in
     comes_deep s before nodes at inside rest t [] os false true 1 refl first opens.normal second third refl
   where
     at_one : 1 + count before ≡ suc (count before)

@@ -80,18 +80,18 @@ record Standing (text : Bytes) (os : List Opening) (rest : Bytes) : Type 0 where
   openings : StandIn text os
   behind : IsRestOf text rest
 
-inside_standing : (whole : Bytes) (outer : List Opening) (n : ℕ) (text : Bytes) (nodes : Nodes) (os : List Opening) (rest : Bytes) → IsInside outer n text nodes os rest → StandIn whole outer → IsRestOf whole text
+stands_inside : (whole : Bytes) (outer : List Opening) (n : ℕ) (text : Bytes) (nodes : Nodes) (os : List Opening) (rest : Bytes) → IsInside outer n text nodes os rest → StandIn whole outer → IsRestOf whole text
     → Standing whole os rest
-inside_standing whole outer n text nodes _ rest (here is) stand part = record { openings = stand; behind = rest_of_rest whole text rest part (nodes_rest _ n text rest nodes is) }
-inside_standing whole outer n text _ os rest (deeper {at = at} {inside = inside} {t = t} {before = before} {nodes = nodes} is opens deep) stand part =
+stands_inside whole outer n text nodes _ rest (here is) stand part = record { openings = stand; behind = rest_of_rest whole text rest part (nodes_rest _ n text rest nodes is) }
+stands_inside whole outer n text _ os rest (deeper {at = at} {inside = inside} {t = t} {before = before} {nodes = nodes} is opens deep) stand part =
     let there = rest_of_rest whole text at part (nodes_rest _ n text at before is) in
-    inside_standing whole (opening (n + count before) at t ∷ outer) _ inside nodes os rest deep (there, stand) (rest_of_rest whole at inside there (start_rest at inside t opens.tag))
+    stands_inside whole (opening (n + count before) at t ∷ outer) _ inside nodes os rest deep (there, stand) (rest_of_rest whole at inside there (start_rest at inside t opens.tag))
 
-standing : (text : Bytes) (h : Bool) (os : List Opening) (nodes : Nodes) (rest : Bytes) → IsOpenAt text h os nodes rest → Standing text os rest
-standing text h _ nodes rest (at_top is) = record { openings = tt; behind = top_rest _ 1 text nodes h rest is }
-standing text _ os _ rest (in_element {before = before} {nodes = nodes} {at = at} {inside = inside} {t = t} is opens deep) =
+stands_at : (text : Bytes) (h : Bool) (os : List Opening) (nodes : Nodes) (rest : Bytes) → IsOpenAt text h os nodes rest → Standing text os rest
+stands_at text h _ nodes rest (at_top is) = record { openings = tt; behind = top_rest _ 1 text nodes h rest is }
+stands_at text _ os _ rest (in_element {before = before} {nodes = nodes} {at = at} {inside = inside} {t = t} is opens deep) =
     let there = top_rest _ 1 text before _ at is in
-    inside_standing text (opening (suc (count before)) at t ∷ []) _ inside nodes os rest deep (there, tt) (rest_of_rest text at inside there (start_rest at inside t opens.tag))
+    stands_inside text (opening (suc (count before)) at t ∷ []) _ inside nodes os rest deep (there, tt) (rest_of_rest text at inside there (start_rest at inside t opens.tag))
 
 -- ---- faults
 
@@ -143,4 +143,4 @@ fault_rest_at whole h os n text _ _ s (f.wrong_end is no) = s.behind
 -- the text from the fault's place on is the rest of the page's
 pub fault_rest : (text : Bytes) (nodes : Nodes) (kind : PageKind) (place : Bytes) → IsFault text nodes kind place → IsRestOf text place
 fault_rest text nodes kind place is =
-    fault_rest_at text is.has_element is.open_there (suc (count nodes)) is.rest place kind (standing text is.has_element is.open_there nodes is.rest is.reached) is.stands
+    fault_rest_at text is.has_element is.open_there (suc (count nodes)) is.rest place kind (stands_at text is.has_element is.open_there nodes is.rest is.reached) is.stands

@@ -111,7 +111,6 @@ module _ (raw : Raw) (next depth d n : ℕ) (start inside : Bytes) (depth_same :
 
 module _ (text : Bytes) (done : List Piece) (s : State) (i : IsState text done s) (t : Tag) (read : IsTagRead s.rest t) (may : may_begin s.begun i.open_there ≡ true)
     (room_is : HasRoom (suc (length i.open_there)) (suc (count i.nodes))) (raw : Raw) (holder : raw_of t.name ≡ Some raw) where
-
   abbrev depth_in : ℕ
   depth_in = suc (suc (length i.open_there))
 

@@ -130,13 +130,13 @@ same_read kinds.Style content = refl
 same_read kinds.Title content = refl
 same_read kinds.Textarea content = refl
 
-pub record IsInside (raw : Raw) (depth number : ℕ) (content : Bytes) (inside : Nodes) : Type 0 where
+pub record IsContent (raw : Raw) (depth number : ℕ) (content : Bytes) (inside : Nodes) : Type 0 where
   pub same : inside ≡ inside_of (is_empty content) (chars (read_raw raw content))
   pub short : length (read_raw raw content) ≤ TEXT_LIMIT
   pub room : is_empty content ≡ false → HasRoom depth number
   pub text : text_inside inside ≡ chars (read_raw raw content)
 
-nothing_inside : (raw : Raw) (depth number : ℕ) → IsInside raw depth number [] NoNodes
+nothing_inside : (raw : Raw) (depth number : ℕ) → IsContent raw depth number [] NoNodes
 unfolding inside_of
 nothing_inside raw depth number = record {
   same = refl;
@@ -146,7 +146,7 @@ nothing_inside raw depth number = record {
 }
 
 text_within : (raw : Raw) (depth number : ℕ) (text content : Bytes) → 0 < length text → HasRoom depth number → length content ≤ TEXT_LIMIT → content ≡ read_raw raw text
-    → IsInside raw depth number text (Text (chars content) NoNodes)
+    → IsContent raw depth number text (Text (chars content) NoNodes)
 unfolding inside_of
 text_within raw depth number [] content some room short e = absurd (omega (arith, some))
 text_within raw depth number (b ∷ bs) content some room short e = record {
@@ -156,8 +156,8 @@ text_within raw depth number (b ∷ bs) content some room short e = record {
   text = ap chars e;
 }
 
-pub inside_is : (raw : Raw) (depth number : ℕ) (content : Bytes) (inside : Nodes) → IsTextInside (reads_entities raw) depth number content inside → IsInside raw depth number content inside
-inside_is raw depth number content _ (grammar.empty e) = subst (λ x. IsInside raw depth number x NoNodes) (sym e) (nothing_inside raw depth number)
+pub inside_is : (raw : Raw) (depth number : ℕ) (content : Bytes) (inside : Nodes) → IsTextInside (reads_entities raw) depth number content inside → IsContent raw depth number content inside
+inside_is raw depth number content _ (grammar.empty e) = subst (λ x. IsContent raw depth number x NoNodes) (sym e) (nothing_inside raw depth number)
 inside_is raw depth number content _ (grammar.filled {content = read} some room is short) =
     text_within raw depth number content read some room short (read_is (reads_entities raw) content read is ∙ same_read raw content)
 
@@ -167,9 +167,8 @@ end_some text _ rest (end_tag e letter run space) = ap is_empty e
 -- ---- the element
 
 module _ (s : State) (one : StartTag) (after_start content at_end_tag behind : Bytes) (raw : Raw) (inside : Nodes) (is : IsStartTag s.rest one after_start)
-    (up : UpTo (begins_end_of (raw_name raw)) after_start content at_end_tag) (within : IsInside raw (suc (suc (length s.open_elements))) (suc s.next) content inside)
+    (up : UpTo (begins_end_of (raw_name raw)) after_start content at_end_tag) (within : IsContent raw (suc (suc (length s.open_elements))) (suc s.next) content inside)
     (end : IsEndTag at_end_tag one.name behind) (named : encode_utf8_all (tag_of one) ≡ raw_name raw) where
-
   shown : List ℕ
   shown = chars (read_raw raw content)
 

@@ -208,7 +208,6 @@ raw_some kinds.Textarea = omega arith
 
 module _ (text : Bytes) (done : List Piece) (s : State) (i : IsState text done s) (t : Tag) (read : IsTagRead s.rest t) (may : may_begin s.begun i.open_there ≡ true)
     (room_is : HasRoom (suc (length i.open_there)) (suc (count i.nodes))) (raw : Raw) (holder : raw_of t.name ≡ Some raw) where
-
   named : encode_utf8_all (tag_of read.one) ≡ raw_name raw
   named = (holder_of (tag_of read.one) raw (rw read.same_name at holder)).named
 
@@ -302,10 +301,10 @@ module _ (text : Bytes) (done : List Piece) (s : State) (i : IsState text done s
       let content = before (stops (AtEndOf raw)) t.rest in
       let at_end_tag = from (stops (AtEndOf raw)) t.rest in
       let b = bind_ok (inside_at s.next (length s.open_elements) raw s.rest t.rest)
-          (λ x. end_tag_at at_end_tag >>= λ y. Ok (closed_raw raw (filled s.next (made s t) (is_empty content) x y.1) t.attributes x)) out h in
+      (λ x. end_tag_at at_end_tag >>= λ y. Ok (closed_raw raw (filled s.next (made s t) (is_empty content) x y.1) t.attributes x)) out h in
       let c = bind_ok (end_tag_at at_end_tag) (λ y. Ok (closed_raw raw (filled s.next (made s t) (is_empty content) b.0 y.1) t.attributes b.0)) out b.2 in
       let is = inside_read raw s.next (length s.open_elements) (suc (suc (length i.open_there))) (suc (suc (count i.nodes))) s.rest t.rest b.0
-          (omega (arith, depth_is text done s i)) (omega (arith, i.next)) b.1 in
+      (omega (arith, depth_is text done s i)) (omega (arith, i.next)) b.1 in
       let x = node b.0 (c.0).0 (c.0).1 is c.1 in
       subst (Went text done) (ok_same _ _ c.2) (subst (λ all. Went text done (closed_raw raw (filled s.next (made s t) (is_empty content) b.0 (c.0).1) all b.0)) (sym read.same_attributes)
       (ended_kept text done (filled s.next (made s t) (is_empty content) b.0 (c.0).1) raw (attributes_of read.one) b.0 (is_filled (is_empty content) b.0 (c.0).1 is.same x)))

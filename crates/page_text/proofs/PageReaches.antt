@@ -126,11 +126,11 @@ step_reaches s u node ws h same_open next begun writes external makes = record {
 -- ---- a run of text
 
 module _ (s : State) where
-  text_state : Bytes → State
+  abbrev text_state : Bytes → State
   text_state content = record s { rest = from (stops AtMarkup) s.rest; next = s.next + 1; writes = s.writes ++ text_writes s.next (parent s) (chars content) }
 
   text_stepped : (content : Bytes) → room s ≡ Ok tt → checked (read_value (before (stops AtMarkup) s.rest)) s.rest ≡ Ok (chars content) → m.text_step s ≡ Ok (text_state content)
-  unfolding m.text_step text_state
+  unfolding m.text_step
   text_stepped content free read = rw (free, read) refl
 
   at_text_is : (u : State) → is_at_top s ≡ false → m.text_step s ≡ Ok u → m.at_text s ≡ Ok (Next u)
@@ -141,7 +141,6 @@ module _ (s : State) where
 
   pub text_reached : (raw content behind : Bytes) → HasRoom (suc (length s.open_elements)) s.next → UpTo begins_markup s.rest raw behind → 0 < length raw → IsRead true raw content
       → length content ≤ TEXT_LIMIT → is_at_top s ≡ false → Reaches s (Text (chars content) NoNodes) behind
-  unfolding text_state
   text_reached raw content behind free up some read short inner =
       let same = front_once begins_markup s.rest raw behind _ _ up (markup_here s.rest) in
       let value : content ≡ read_value (before (stops AtMarkup) s.rest) = value_is raw content read ∙ ap read_value same.0 in
@@ -155,11 +154,11 @@ module _ (s : State) where
 
   -- ---- a comment
 
-  comment_state : Bytes → Bytes → State
+  abbrev comment_state : Bytes → Bytes → State
   comment_state content behind = record s { rest = behind; next = s.next + 1; writes = s.writes ++ comment_writes s.next (parent s) (chars content) }
 
   comment_stepped : (content behind : Bytes) → room s ≡ Ok tt → t.comment_at s.rest ≡ Ok (chars content, behind) → m.comment_step s ≡ Ok (comment_state content behind)
-  unfolding m.comment_step comment_state
+  unfolding m.comment_step
   comment_stepped content behind free read = rw (free, read) refl
 
   comment_steps : (u : State) → front_of s.rest ≡ m.comment → m.comment_step s ≡ Ok u → Steps s (Ok (Next u))
@@ -167,7 +166,6 @@ module _ (s : State) where
 
   pub comment_reached : (content behind : Bytes) → HasRoom (suc (length s.open_elements)) s.next → IsComment s.rest content behind → length content ≤ TEXT_LIMIT
       → Reaches s (Comment (chars content) NoNodes) behind
-  unfolding comment_state
   comment_reached content behind free is short =
       let stepped = comment_stepped content behind (room_again s.next (length s.open_elements) _ s.rest refl free) (comment_again s.rest content behind is short) in
       let ws = comment_writes s.next (parent s) (chars content) in

@@ -119,8 +119,8 @@ same_fault : (bytes front other place last : Bytes) (k l : PageKind) → bytes �
 same_fault bytes front other place last k l e f same =
     let kinds : k ≡ l = ap (λ (x : PageKind × Bytes). x.0) same in
     let places : place ≡ last = ap (λ (x : PageKind × Bytes). x.1) same in
-    let at : length front ≡ length other = front_length bytes front place e ∙ (ap (λ x. length bytes - length x) places ∙ sym (front_length bytes other last f)) in
-    rw (kinds, at) refl
+    let lengths : length front ≡ length other = front_length bytes front place e ∙ (ap (λ x. length bytes - length x) places ∙ sym (front_length bytes other last f)) in
+    rw (kinds, lengths) refl
 
 -- ---- a page has one reading
 
@@ -167,8 +167,8 @@ module _ (bytes : Bytes) (done : List Piece) (p : Progress) where
       let r = fault_rest b.text kept.0 s.kind s.rest kept.2 in
       let m = mark_rest bytes b.text b.is_text.mark in
       let whole = rest_on bytes m.0 b.text s.rest m.1 r in
-      let at : p.size - length s.rest ≡ length whole.0 = omega (arith, b.size, front_length bytes whole.0 s.rest whole.1, ap length whole.1, length-append whole.0 s.rest) in
-      subst (IsFaulty bytes done) (sym (s.is_fault ∙ ap (λ n. fault_at n s.kind) at)) (no_page whole.0 kept.1 b.is_text kept.2 kept.3 whole.1)
+      let lengths : p.size - length s.rest ≡ length whole.0 = omega (arith, b.size, front_length bytes whole.0 s.rest whole.1, ap length whole.1, length-append whole.0 s.rest) in
+      subst (IsFaulty bytes done) (sym (s.is_fault ∙ ap (λ n. fault_at n s.kind) lengths)) (no_page whole.0 kept.1 b.is_text kept.2 kept.3 whole.1)
 
   stops_at : (o : Over) → IsAtBy o bytes done p → (f : PageFault) → model.Stops o p f → IsFaulty bytes done f
   stops_at No b f s = stuck_at b f s
@@ -227,10 +227,10 @@ module _ (bytes : Bytes) (done : List Piece) (p : Progress) where
   met_stuck b pieces f g (in_text kind front place r parts same) s =
       let l = stuck_left b pieces (Some (kind, place)) r g s in
       let both = some_same (kind, place) (s.kind, s.rest) l.1 in
-      let at : p.size - length s.rest ≡ length front =
-          ap (λ n. n - length s.rest) b.size ∙ (ap (λ x. length bytes - length x) (sym (ap (λ (x : PageKind × Bytes). x.1) both)) ∙ sym (front_length bytes front place parts)) in
+      let lengths : p.size - length s.rest ≡ length front =
+      ap (λ n. n - length s.rest) b.size ∙ (ap (λ x. length bytes - length x) (sym (ap (λ (x : PageKind × Bytes). x.1) both)) ∙ sym (front_length bytes front place parts)) in
       let kinds : s.kind ≡ kind = sym (ap (λ (x : PageKind × Bytes). x.0) both) in
-      (s.is_fault ∙ (rw (at, kinds) refl ∙ sym same), l.0)
+      (s.is_fault ∙ (rw (lengths, kinds) refl ∙ sym same), l.0)
   met_stuck b pieces f g (before_text n) s = absurd (no_text bytes b.text pieces f b.is_text n)
 
   met_next : (b : IsBetween bytes done p) (pieces : List Piece) (f : PageFault) → ReadsFault bytes pieces f → (x : Piece) (q : Progress) → IsNext p x q → (more : List Piece) × (pieces ≡ done ++ x ∷ more)
@@ -254,19 +254,19 @@ module _ (bytes : Bytes) (done : List Piece) (p : Progress) where
       (told ∙ sym both.1, both.0)
   met_at (Refused l) b q pieces f is (Err NoMemory) g r e = tt
 
-  module _ (at : IsAt bytes done p) (q : Progress) (a : Result (Option Piece) (OrMemory PageFault)) (goes : IfOk a (λ x. model.Goes p.over p x q)) (refuses : IfErr a (λ e. model.Refuses p e q)) where
+  module _ (stands : IsAt bytes done p) (q : Progress) (a : Result (Option Piece) (OrMemory PageFault)) (goes : IfOk a (λ x. model.Goes p.over p x q)) (refuses : IfErr a (λ e. model.Refuses p e q)) where
     pub only_of : (pieces : List Piece) → IsPage bytes pieces → IsRead pieces done a
-    only_of pieces is = only_at p.over at q pieces is a goes refuses refl
+    only_of pieces is = only_at p.over stands q pieces is a goes refuses refl
 
     pub fault_of : (pieces : List Piece) (f : PageFault) → IsFaulty bytes pieces f → IsMet pieces f done a
-    fault_of pieces f is = met_at p.over at q pieces f is a goes refuses refl
+    fault_of pieces f is = met_at p.over stands q pieces f is a goes refuses refl
 
 -- ---- the clauses of next_piece
 
 pub all_goes : (p q : Progress) (a : Result (Option Piece) (OrMemory PageFault)) → IfOk a (λ x. model.Goes p.over p x q) → IfOk a (λ x. (bytes : Bytes) (done : List Piece) → IsAt bytes done p → Goes bytes done x q)
-all_goes p q (Ok x) g = λ bytes done at. goes_of bytes done p at q x g
+all_goes p q (Ok x) g = λ bytes done stands. goes_of bytes done p stands q x g
 all_goes p q (Err e) g = tt
 
 pub all_refuses : (p q : Progress) (a : Result (Option Piece) (OrMemory PageFault)) → IfErr a (λ e. model.Refuses p e q) → IfErr a (λ e. (bytes : Bytes) (done : List Piece) → IsAt bytes done p → Refuses bytes done p e q)
 all_refuses p q (Ok x) r = tt
-all_refuses p q (Err e) r = λ bytes done at. refuses_of bytes done p at q e r
+all_refuses p q (Err e) r = λ bytes done stands. refuses_of bytes done p stands q e r

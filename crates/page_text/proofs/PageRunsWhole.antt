@@ -53,8 +53,8 @@ pub fault_ends : (text : Bytes) (nodes : Nodes) (kind : PageKind) (place : Bytes
     → Ends (start text) pieces (Some (kind, place))
 fault_ends text nodes kind place pieces last f e =
     let c = open_run text f.has_element f.open_there nodes f.rest f.reached in
-    let step = fault_again c.last f.has_element f.open_there (suc (count nodes)) c.same_open c.begun (omega (arith, c.next)) kind place
-        (subst (λ x. FaultAt f.has_element f.open_there (suc (count nodes)) x kind place) (sym c.same_rest) f.stands) in
+    let step = fault_again c.last f.has_element f.open_there (suc (count nodes)) c.same_open c.element_begun (omega (arith, c.next)) kind place
+    (subst (λ x. FaultAt f.has_element f.open_there (suc (count nodes)) x kind place) (sym c.same_rest) f.stands) in
     let same = snoc_same pieces c.pieces last (piece_at None c.last) (sym e ∙ c.made [] [] refl) in
     subst (λ ps. Ends (start text) ps (Some (kind, place))) (append-nil c.pieces ∙ sym same.0)
     (ends_behind (start text) c.last c.pieces [] (Some (kind, place)) c.run (at_fault step))
@@ -68,6 +68,6 @@ pub state_run : (text : Bytes) (done : List Piece) (s : State) → IsState text 
 state_run text done s i =
     let c = open_run text s.begun i.open_there i.nodes s.rest i.reached in
     let same = snoc_same done c.pieces (piece_at None s) (piece_at None c.last) (sym i.made ∙ c.made [] [] refl) in
-    let whole = state_same c.last s c.same_rest (c.same_open ∙ sym i.same_open) (omega (arith, c.next, i.next)) c.begun
-        (ap (λ (p : Piece). p.writes) (sym same.1)) (ap (λ (p : Piece). p.external) (sym same.1)) in
+    let whole = state_same c.last s c.same_rest (c.same_open ∙ sym i.same_open) (omega (arith, c.next, i.next)) c.element_begun
+    (ap (λ (p : Piece). p.writes) (sym same.1)) (ap (λ (p : Piece). p.external) (sym same.1)) in
     subst (λ u. Run (start text) done u) whole (subst (λ ps. Run (start text) ps c.last) (sym same.0) c.run)

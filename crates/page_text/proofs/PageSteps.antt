@@ -64,7 +64,7 @@ module _ (text : Bytes) (done : List Piece) (s : State) (i : IsState text done s
       let c = bind_ok (checked (read_value raw) s.rest) (λ x. Ok (record s { rest = behind; next = s.next + 1; writes = s.writes ++ text_writes s.next (parent s) x })) t b.2 in
       let d = checked_ok (read_value raw) s.rest c.0 c.1 in
       let is : IsNodes (suc (length i.open_there)) n s.rest (Text (chars (read_value raw)) NoNodes) behind =
-          text_run (room_there text done s i b.1) (markup_here s.rest) (some_run s.rest front) (value_here raw) d.0 no_more in
+      text_run (room_there text done s i b.1) (markup_here s.rest) (some_run s.rest front) (value_here raw) d.0 no_more in
       let g = grow_at text s.rest behind s.begun i.open_there i.nodes (Text (chars (read_value raw)) NoNodes) i.reached inner is in
       let ws = text_writes n (parent_in i.open_there) (chars (read_value raw)) in
       let same = grown_as text s.begun i.nodes 1 _ (map Build ws) i.open_there behind (append-nil (map Build ws)) g in

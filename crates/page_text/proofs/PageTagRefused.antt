@@ -245,8 +245,14 @@ long_first : (text inside other : Bytes) → text ≡ 60 ∷ inside → LongInTa
 long_first text inside other e (long_name {inside = i} f run long) = omega (arith, ap length (same_tail 60 60 inside i (sym e ∙ f)))
 long_first text inside other e (long_in_attribute {inside = i} {raw = raw} {after_name = after} {after_some = last} {gap = gap} {here = here} {some = some} f run list space any long) =
     let moved = attributes_moved after last some list in
-    omega (arith, ap length (same_tail 60 60 inside i (sym e ∙ f)), behind_shorter i raw after run.whole, behind_shorter after moved.used last moved.whole, behind_shorter last gap here space.whole,
-    long_place here other long)
+    omega (
+      arith,
+      ap length (same_tail 60 60 inside i (sym e ∙ f)),
+      behind_shorter i raw after run.whole,
+      behind_shorter after moved.used last moved.whole,
+      behind_shorter last gap here space.whole,
+      long_place here other long,
+    )
 
 abbrev IsRefused : Bytes → Outcome Tag → Type 0
 IsRefused text (Ok x) = Unit {0}

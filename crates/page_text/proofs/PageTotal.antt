@@ -186,8 +186,14 @@ end_at_less : (text name rest : Bytes) (v w x : Bool)
     → length rest ≤ length text
 end_at_less text name rest true true x h =
     let name_left = after_name (drop 2 text) in
-    omega (arith, ap length (pair_same (lowered (name_of (drop 2 text))) name (drop 1 (after_space name_left)) rest h).1, drop_less 1 (after_space name_left), from_less (stops AfterSpace) name_left,
-    from_less (stops AfterName) (drop 2 text), drop_less 2 text)
+    omega (
+      arith,
+      ap length (pair_same (lowered (name_of (drop 2 text))) name (drop 1 (after_space name_left)) rest h).1,
+      drop_less 1 (after_space name_left),
+      from_less (stops AfterSpace) name_left,
+      from_less (stops AfterName) (drop 2 text),
+      drop_less 2 text,
+    )
 end_at_less text name rest true false true h = err_ok _ _ h
 end_at_less text name rest true false false h = err_ok _ _ h
 end_at_less text name rest false w x h = err_ok _ _ h
@@ -207,7 +213,7 @@ module _ (s : State) (t : Tag) (less : Less s.rest t.rest) where
       let content = before (stops (AtEndOf raw)) t.rest in
       let at_end_tag = from (stops (AtEndOf raw)) t.rest in
       let b = bind_ok (inside_at s.next (length s.open_elements) raw s.rest t.rest)
-          (λ y. end_tag_at at_end_tag >>= λ z. Ok (closed_raw raw (filled s.next (made s t) (is_empty content) y z.1) t.attributes y)) x h in
+      (λ y. end_tag_at at_end_tag >>= λ z. Ok (closed_raw raw (filled s.next (made s t) (is_empty content) y z.1) t.attributes y)) x h in
       let c = bind_ok (end_tag_at at_end_tag) (λ z. Ok (closed_raw raw (filled s.next (made s t) (is_empty content) b.0 z.1) t.attributes b.0)) x b.2 in
       let behind : Less s.rest (c.0).1 = omega (arith, less, from_less (stops (AtEndOf raw)) t.rest, end_tag_less at_end_tag (c.0).0 (c.0).1 c.1) in
       let there : Less s.rest (filled s.next (made s t) (is_empty content) b.0 (c.0).1).rest = subst (Less s.rest) (sym (rest_filled s (is_empty content) t b.0 (c.0).1)) behind in
@@ -251,11 +257,10 @@ ends_by s (Ok (End t)) h less more = (piece_at None t ∷ [], None, at_end h)
 ends_by s (Err e) h less more = ([], Some e, at_fault h)
 
 has_end : (fuel : ℕ) (s : State) → length s.rest ≤ fuel → HasEnd s
-has_end fuel s small = let x = steps_at s (front_of s.rest) in ends_by s x.0 x.1 (step_less s (front_of s.rest) x.0 refl x.1) (later fuel small)
-  where
-    later : (n : ℕ) → length s.rest ≤ n → (t : State) → Less s.rest t.rest → HasEnd t
-    later zero h t less = absurd (omega (arith, h, less))
-    later (suc n) h t less = has_end n t (omega (arith, h, less))
+has_end zero s small = let x = steps_at s (front_of s.rest) in ends_by s x.0 x.1 (step_less s (front_of s.rest) x.0 refl x.1) (λ t less. absurd (omega (arith, small, less)))
+has_end (suc fuel) s small =
+    let x = steps_at s (front_of s.rest) in
+    ends_by s x.0 x.1 (step_less s (front_of s.rest) x.0 refl x.1) (λ t less. has_end fuel t (omega (arith, small, less)))
 
 -- ---- what they come to by the grammar
 

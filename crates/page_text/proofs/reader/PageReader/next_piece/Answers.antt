@@ -8,7 +8,7 @@ pub returns-clause-first : goal.returns-clause-first
 returns-clause-first c = all_refuses _ _ c.advance.result c.advance.ensures.err
 
 pub returns-clause-only : goal.returns-clause-only
-returns-clause-only c = λ bytes done at. only_of bytes done _ at _ c.advance.result c.advance.ensures.ok c.advance.ensures.err
+returns-clause-only c = λ bytes done stands. only_of bytes done _ stands _ c.advance.result c.advance.ensures.ok c.advance.ensures.err
 
 pub returns-clause-fault : goal.returns-clause-fault
-returns-clause-fault c = λ bytes done at. fault_of bytes done _ at _ c.advance.result c.advance.ensures.ok c.advance.ensures.err
+returns-clause-fault c = λ bytes done stands. fault_of bytes done _ stands _ c.advance.result c.advance.ensures.ok c.advance.ensures.err
