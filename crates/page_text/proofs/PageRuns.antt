@@ -106,11 +106,11 @@ piece_fits s _ (p.at_end s' t h) all o ends = end_ends s t all o h ends
 piece_fits s _ (p.at_fault s' e h) all o ends = fault_ends s e all o h ends
 
 -- a run to the end is one
-pub ends_once : (s : State) (all others : List Piece) (o p : Option (PageKind × Bytes)) → Ends s all o → Ends s others p → (all ≡ others) × (o ≡ p)
-ends_once s _ others _ p (at_end {t = t} h) ends = let e = end_ends s t others p h ends in (sym e.0, sym e.1)
-ends_once s _ others _ p (at_fault {e = x} h) ends = let e = fault_ends s x others p h ends in (sym e.0, sym e.1)
-ends_once s all others o p (on_step {t = t} h more) ends = ends_once t all others o p more (next_ends s t others p h ends)
-ends_once s _ others o p (on_script {t = t} {shown = shown} {ps = ps} h more) ends =
-    let x = script_ends s shown t others p h ends in
-    let y = ends_once (cut_off t) ps x.0 o p more x.1 in
+pub ends_once : (s : State) (all others : List Piece) (o q : Option (PageKind × Bytes)) → Ends s all o → Ends s others q → (all ≡ others) × (o ≡ q)
+ends_once s _ others _ q (at_end {t = t} h) ends = let e = end_ends s t others q h ends in (sym e.0, sym e.1)
+ends_once s _ others _ q (at_fault {e = x} h) ends = let e = fault_ends s x others q h ends in (sym e.0, sym e.1)
+ends_once s all others o q (on_step {t = t} h more) ends = ends_once t all others o q more (next_ends s t others q h ends)
+ends_once s _ others o q (on_script {t = t} {shown = shown} {ps = ps} h more) ends =
+    let x = script_ends s shown t others q h ends in
+    let y = ends_once (cut_off t) ps x.0 o q more x.1 in
     (ap (λ l. piece_at (Some shown) t ∷ l) y.0 ∙ sym x.2, y.1)
