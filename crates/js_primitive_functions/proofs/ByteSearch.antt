@@ -84,3 +84,14 @@ lengths_there n s at m =
 
 pub end_there : (n s : List ℕ) (at : ℕ) → MatchBeginsAt (FindsText n) s at → IsCharBoundary s (at + length n)
 end_there n s at m = m.1.1.after
+
+-- the same of other names for the two parts
+pub split_found : (n s before after : List ℕ) (at end : ℕ) → IsUtf8 n → IsUtf8 s → MatchBeginsAt (FindsText n) s at → before ≡ take at s → after ≡ drop end s → end ≡ at + length n → SplitsAtFirst (chars s) (chars n) (chars before) (chars after)
+split_found n s before after at end un us m front back e =
+    let same : after ≡ drop (at + length n) s = back ∙ ap (λ (k : ℕ). drop k s) e in
+    let first : IsUtf8 before = subst IsUtf8 (sym front) (IsUtf8-take s at us m.3) in
+    let parts : s ≡ before ++ (n ++ after) =
+    parts_there n s at m
+    ∙ (ap (λ (xs : List ℕ). xs ++ (n ++ drop (at + length n) s)) (sym front)
+    ∙ ap (λ (xs : List ℕ). before ++ (n ++ xs)) (sym same)) in
+    somewhere n s before after at un us first parts (ap length front ∙ length-take-le at s m.3.0) m.1.0

@@ -4,3 +4,4 @@ pub mod FirstPlaces
 pub mod SingleScalars
 pub mod ByteSearch
 pub mod TrimmedEnds
+pub mod PlacesFrom

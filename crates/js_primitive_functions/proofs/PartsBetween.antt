@@ -3,7 +3,11 @@ use Rattle.std.specs.Prelude.{◌≡◌, ℕ, zero, suc, ◌+◌, ◌-◌, ◌<�
 use Rattle.std.proofs.Common.{sym, ap, ◌∙◌, arith, append_assoc}
 use Rattle.std.proofs.Math.Seq.{drop-append-add, drop-append_seam, take-append_seam}
 use Rattle.std.proofs.lemmas.List.{length-append, length-drop}
-use Rattle.js_semantics.specs.Texts.{after_part, first_place, parts_between, parts_of, replaced}
+use Rattle.std.proofs.lemmas.Str.{encodes-chars}
+use Rattle.std.specs.Str.{chars, IsUtf8}
+use Rattle.base_text.specs.Scalars.{utf8_len}
+use Rattle.base_text.proofs.Utf8.{utf8_len-append}
+use Rattle.js_semantics.specs.Texts.{after_part, first_place, parts_between, parts_of, replaced, singles}
 use Rattle.js_primitive_functions.specs.Splits.{SplitsAtFirst}
 
 -- a text that isn't empty leaves less where it stands
@@ -69,6 +73,15 @@ only_part (c ∷ cs) t some none = counted (length t)
 pub one_more : (told all left : List (List ℕ)) (part : List ℕ) (rest : List (List ℕ)) → told ++ left ≡ all → left ≡ part ∷ rest → (told ++ part ∷ []) ++ rest ≡ all
 one_more told all left part rest e first = append_assoc told (part ∷ []) rest ∙ (sym (ap (λ (xs : List (List ℕ)). told ++ xs) first) ∙ e)
 
+-- where nothing separates, the parts are the scalars
+pub parts_of_none : (s t : List ℕ) → length s ≡ 0 → parts_of s t ≡ singles t
+parts_of_none [] t none = refl
+parts_of_none (c ∷ cs) t none = absurd (omega (arith, none))
+
+-- the scalars that are told, and those of what is left, are those of all
+pub one_single : (told all : List (List ℕ)) (t cs : List ℕ) (c : ℕ) → told ++ singles t ≡ all → t ≡ c ∷ cs → (told ++ (c ∷ []) ∷ []) ++ singles cs ≡ all
+one_single told all t cs c e first = one_more told all (singles t) (c ∷ []) (singles cs) e (ap singles first)
+
 -- ---- replace
 
 -- the text with another in its first place
@@ -81,3 +94,23 @@ replaced_there t s by before after split =
 
 pub replaced_nowhere : (t s by : List ℕ) → first_place s 0 0 t ≡ None → replaced t s by (first_place s 0 0 t) ≡ t
 replaced_nowhere t s by none = ap (replaced t s by) none
+
+-- the same of other names for the three texts
+pub replaced_whole : (t s by ts ss bys before after : List ℕ) → ts ≡ t → ss ≡ s → bys ≡ by → SplitsAtFirst ts ss before after → replaced t s by (first_place s 0 0 t) ≡ before ++ (bys ++ after)
+replaced_whole t s by ts ss bys before after et es eb split =
+    ap (λ (xs : List ℕ). replaced xs s by (first_place s 0 0 xs)) (sym et)
+    ∙ (ap (λ (xs : List ℕ). replaced ts xs by (first_place xs 0 0 ts)) (sym es)
+    ∙ (ap (λ (xs : List ℕ). replaced ts ss xs (first_place ss 0 0 ts)) (sym eb)
+    ∙ replaced_there ts ss bys before after split))
+
+pub replaced_none : (t s by ts ss : List ℕ) → ts ≡ t → ss ≡ s → first_place ss 0 0 ts ≡ None → replaced t s by (first_place s 0 0 t) ≡ t
+replaced_none t s by ts ss et es none =
+    replaced_nowhere t s by
+    (ap (λ (xs : List ℕ). first_place s 0 0 xs) (sym et) ∙ (ap (λ (xs : List ℕ). first_place xs 0 0 ts) (sym es) ∙ none))
+
+-- the bytes of three texts, one after the other
+pub three_lengths : (a b c : List ℕ) → IsUtf8 a → IsUtf8 b → IsUtf8 c → utf8_len (chars a ++ (chars b ++ chars c)) ≡ length a + (length b + length c)
+three_lengths a b c ua ub uc =
+    let first = utf8_len-append (chars a) (chars b ++ chars c) in
+    let second = utf8_len-append (chars b) (chars c) in
+    omega (arith, first, second, ap length (encodes-chars a ua), ap length (encodes-chars b ub), ap length (encodes-chars c uc))

@@ -1,10 +1,10 @@
 -- The scalars of a text by their bytes.
-use Rattle.std.specs.Prelude.{◌≡◌, ℕ, zero, suc, ◌+◌, ◌<◌, ◌≤◌, List, [], ◌∷◌, ◌++◌, length, drop, encode_utf8_all, refl}
+use Rattle.std.specs.Prelude.{◌≡◌, ℕ, zero, suc, ◌+◌, ◌<◌, ◌≤◌, List, [], ◌∷◌, ◌++◌, length, take, drop, encode_utf8_all, refl}
 use Rattle.std.specs.Str.{chars, IsAscii, IsUtf8}
-use Rattle.std.proofs.Common.{sym, ap, subst, ◌∙◌, arith, append-nil}
+use Rattle.std.proofs.Common.{sym, ap, subst, ◌∙◌, arith, append-nil, take_at, drop_at}
 use Rattle.std.proofs.Math.Utf8.{encode}
 use Rattle.std.proofs.lemmas.List.{length-append}
-use Rattle.std.proofs.lemmas.Str.{chars-nil, chars-append, chars-IsAscii, chars_past_char, encodes-IsAscii, encodes_same, IsAscii-drop, length-encode, len_utf8_bounds}
+use Rattle.std.proofs.lemmas.Str.{chars-nil, chars-append, chars-IsAscii, chars_past_char, encodes-IsAscii, encodes_same, IsAscii-drop, IsCharBoundary-from_take, IsUtf8-drop, length-encode, len_utf8_bounds}
 use Rattle.base_text.proofs.Utf8.{IsAscii-from_count}
 
 -- a scalar has one to four bytes
@@ -29,9 +29,18 @@ shorter_after c bs rest e = omega (arith, ap length e, length-append (encode c) 
 pub shorter_before : (c : ℕ) (bs rest : List ℕ) → bs ≡ rest ++ encode c → length rest < length bs
 shorter_before c bs rest e = omega (arith, ap length e, length-append rest (encode c), (encode_bounds c).0)
 
-pub last_char : (c : ℕ) (bs rest : List ℕ) → IsUtf8 rest → IsUtf8 (encode c) → bs ≡ rest ++ encode c → chars bs ≡ chars rest ++ c ∷ []
+-- what follows a text in a text is one
+pub IsUtf8-after : (bs front back : List ℕ) → IsUtf8 bs → IsUtf8 front → bs ≡ front ++ back → IsUtf8 back
+IsUtf8-after bs front back u v e =
+    let n = length front in
+    let within : n ≤ length bs = omega (arith, length-append front back, ap length e) in
+    let cut = IsCharBoundary-from_take bs n u within (subst IsUtf8 (sym (ap (take n) e ∙ take_at front back n refl)) v) in
+    subst IsUtf8 (ap (drop n) e ∙ drop_at front back n refl) (IsUtf8-drop bs n u cut)
+
+pub last_char : (c : ℕ) (bs rest : List ℕ) → IsUtf8 bs → IsUtf8 rest → bs ≡ rest ++ encode c → chars bs ≡ chars rest ++ c ∷ []
 last_char c bs rest u v e =
-    ap chars e ∙ (chars-append rest (encode c) u ∙ ap (λ (xs : List ℕ). chars rest ++ xs) (one_char c (encode c) v refl))
+    let last = IsUtf8-after bs rest (encode c) u v e in
+    ap chars e ∙ (chars-append rest (encode c) u ∙ ap (λ (xs : List ℕ). chars rest ++ xs) (one_char c (encode c) last refl))
 
 -- where each scalar is one byte, places of bytes are places of scalars
 pub ascii_rest : (t whole : List ℕ) (p : ℕ) → whole ≡ encode_utf8_all t → length t ≡ length whole → chars (drop p whole) ≡ drop p t

@@ -12,6 +12,7 @@ use std::alloc::Global;
 
 /// What stands between the places of a separator; its single scalars where the separator is empty (22.1.3.23
 /// String.prototype.split).
+#[tactic(auto, using(crate::proofs::PartsBetween::parts_of_none))]
 pub fn split(alloc: Global, text: &Text, separator: &Text) -> Mem<Texts>
     ensures { IfOk result (λ parts. parts ≡ parts_of separator.now text.now) }
 {
@@ -29,7 +30,8 @@ fn singles(alloc: Global, s: &str) -> Mem<Texts>
     let mut parts = Texts::new(alloc);
     let mut rest = s;
     while let Some((scalar, after)) = split_first(rest) {
-        parts.push(single(alloc, scalar)?)?;
+        let part = single(alloc, scalar)?;
+        parts.push(part)?;
         rest = after;
     }
     Ok(parts)
@@ -44,9 +46,11 @@ fn parts_between(alloc: Global, s: &str, separator: &str) -> Mem<Texts>
     let mut parts = Texts::new(alloc);
     let mut rest = s;
     while let Some((before, after)) = split_at_first(rest, separator) {
-        parts.push(text_of(alloc, before)?)?;
+        let part = text_of(alloc, before)?;
+        parts.push(part)?;
         rest = after;
     }
-    parts.push(text_of(alloc, rest)?)?;
+    let last = text_of(alloc, rest)?;
+    parts.push(last)?;
     Ok(parts)
 }

@@ -32,9 +32,9 @@ pub fn char_at(alloc: Global, text: &Text, place: i64) -> Mem<Text>
 pub(crate) fn single(alloc: Global, scalar: char) -> Mem<Text>
     ensures { IfOk result (λ t. t ≡ scalar ∷ []) }
 {
-    let mut text = String::new(alloc);
-    text.push(scalar)?;
-    text_of(alloc, text.as_str())
+    let mut bytes = [0; 4];
+    let text = scalar.encode_utf8(&mut bytes);
+    text_of(alloc, text)
 }
 
 /// The text of a part of a text.
@@ -56,10 +56,9 @@ pub(crate) fn scalar_count(s: &str) -> u32
     ensures within { result ≤ length s.now }
 {
     if s.is_ascii() {
-        s.len() as u32
-    } else {
-        s.chars().count() as u32
+        return s.len() as u32;
     }
+    s.chars().count() as u32
 }
 
 /// The first scalar of a part of a text, and what follows it.
@@ -68,10 +67,10 @@ pub(crate) fn split_first(s: &str) -> Option<(char, &str)>
     ensures shorter { IfSome result (λ p. length p.1.now < length s.now) }
 {
     let mut scalars = s.chars();
-    let Some(first) = scalars.next() else {
-        return None;
-    };
-    Some((first, scalars.as_str()))
+    match scalars.next() {
+        Some(first) => Some((first, scalars.as_str())),
+        None => None,
+    }
 }
 
 /// The last scalar of a part of a text, and what stands before it.
@@ -80,8 +79,8 @@ pub(crate) fn split_last(s: &str) -> Option<(char, &str)>
     ensures shorter { IfSome result (λ p. length p.1.now < length s.now) }
 {
     let mut scalars = s.chars();
-    let Some(last) = scalars.next_back() else {
-        return None;
-    };
-    Some((last, scalars.as_str()))
+    match scalars.next_back() {
+        Some(last) => Some((last, scalars.as_str())),
+        None => None,
+    }
 }

@@ -1,6 +1,6 @@
 //! The first place of a text in another.
 ghost use Rattle.std.specs.Prelude.{◌≡◌, ◌≤◌, drop, length, suc, ◌+◌, None, IfSome, MatchOption};
-ghost use Rattle.std.specs.Str.{chars};
+ghost use Rattle.std.specs.Str.{chars, IsUtf8};
 ghost use Rattle.base_text.specs.declared.text.TheConstants.{SOURCE_LIMIT};
 ghost use Rattle.js_semantics.specs.Texts.{clamped, first_place};
 ghost use Rattle.js_primitive_functions.specs.Splits.{SplitsAtFirst};
@@ -14,8 +14,9 @@ use base_text::Text;
 pub fn index_of(text: &Text, wanted: &Text, from: i64) -> Option<u32>
     ensures { result ≡ first_place wanted.now (clamped from (suc (length text.now))) 0 text.now }
 {
-    let start = clamped(from, text.count() + 1);
-    if start > text.count() {
+    let end = text.count();
+    let start = clamped(from, end + 1);
+    if start > end {
         return None;
     }
     let Some((before, _)) = split_at_first(rest_from(text, start), wanted.as_str()) else {
@@ -29,11 +30,12 @@ pub(crate) fn split_at_first<'a>(s: &'a str, wanted: &str) -> Option<(&'a str, &
     ensures cases { MatchOption result (first_place (chars wanted.now) 0 0 (chars s.now) ≡ None)
         (λ p. SplitsAtFirst (chars s.now) (chars wanted.now) (chars p.0.now) (chars p.1.now)) }
     ensures within { IfSome result (λ p. length p.0.now + (length wanted.now + length p.1.now) ≡ length s.now) }
+    ensures texts { IfSome result (λ p. IsUtf8 p.0.now × IsUtf8 p.1.now) }
 {
-    let Some(at) = s.find(wanted) else {
-        return None;
-    };
-    Some((&s[..at], &s[at + wanted.len()..]))
+    match s.find(wanted) {
+        Some(at) => Some((&s[..at], &s[at + wanted.len()..])),
+        None => None,
+    }
 }
 
 /// What stands from a place on.
