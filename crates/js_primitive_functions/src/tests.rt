@@ -16,12 +16,8 @@ fn text(alloc: Global, s: &str) -> Result<Text, Fail> {
 
 /// A text of 262,144 bytes: a scalar of four bytes, and letters after it.
 fn longest(alloc: Global) -> Result<Text, Fail> {
-    let mut letters = text(alloc, "aaaa")?;
-    while letters.count() < 131_072 {
-        letters = letters.join(alloc, &letters)?;
-    }
-    let most = letters.cut(alloc, 0, 131_068)?;
-    Ok(text(alloc, "😀")?.join(alloc, &letters)?.join(alloc, &most)?)
+    let letters = "a".repeat(alloc, 262_140)?;
+    Ok(text(alloc, "😀")?.join(alloc, &text(alloc, letters.as_str())?)?)
 }
 
 #[test]
