@@ -1,7 +1,6 @@
 -- The first place from a place on, by the rest of the text.
-use Rattle.std.specs.Prelude.{◌≡◌, ℕ, zero, suc, ◌+◌, ◌<◌, ◌≤◌, ℤ, List, length, drop, Option, Some, None}
-use Rattle.std.specs.Option.{option_map}
-use Rattle.std.proofs.Common.{sym, ap, ◌∙◌, arith}
+use Rattle.std.specs.Prelude.{◌≡◌, ℕ, suc, ◌+◌, ◌<◌, ◌≤◌, ℤ, List, length, drop, Some, None}
+use Rattle.std.proofs.Common.{sym, ap, ◌∙◌}
 use Rattle.js_semantics.specs.Texts.{clamped, first_place}
 use Rattle.js_primitive_functions.specs.Splits.{SplitsAtFirst}
 use Rattle.js_primitive_functions.proofs.FirstPlaces.{found_from, past_end}

@@ -1,6 +1,4 @@
 use Rattle.std.specs.Str.{chars}
-use Rattle.std.proofs.Common.{ap, ◌∙◌}
-use Rattle.base_text.specs.Scalars.{utf8_len}
 use Rattle.js_primitive_functions.proofs.PartsBetween.{replaced_none, replaced_whole, three_lengths}
 use Rattle.js_primitive_functions.proofs.replacement.replace.Goals as goal
 
