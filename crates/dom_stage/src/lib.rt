@@ -8,6 +8,7 @@ mod node;
 mod refusals;
 mod stage;
 mod target;
+mod window;
 
 pub use stage::Stage;
 
