@@ -1,0 +1,9 @@
+mod Lists
+mod SlotLists
+mod ElementLists
+mod CellRows
+mod Keys
+mod OwnerRows
+mod Chains
+mod Standards
+mod HeapRows
