@@ -11,11 +11,11 @@ use Rattle.js_objects.proofs.Lists.{by_number, one_less, get_set_same, get_set_o
 
 -- ---- the cells above
 
-above_none : (k : ℕ) (cells : List Cell) → above k cells None ≡ None
+pub above_none : (k : ℕ) (cells : List Cell) → above k cells None ≡ None
 above_none zero cells = refl
 above_none (suc k) cells = refl
 
-above_add : (i j : ℕ) (cells : List Cell) (o : Option CellId) → above (i + j) cells o ≡ above j cells (above i cells o)
+pub above_add : (i j : ℕ) (cells : List Cell) (o : Option CellId) → above (i + j) cells o ≡ above j cells (above i cells o)
 above_add zero j cells o = let e : 0 + j ≡ j = omega arith in ap (λ n. above n cells o) e
 above_add (suc i) j cells None = let e : suc i + j ≡ suc (i + j) = omega arith in ap (λ n. above n cells None) e ∙ sym (above_none j cells)
 above_add (suc i) j cells (Some c) = let e : suc i + j ≡ suc (i + j) = omega arith in ap (λ n. above n cells (Some c)) e ∙ above_add i j cells (proto_by (slice_get cells c.0))
@@ -69,7 +69,7 @@ ends_through (suc k) l xs n x y (Some c) e p a = by_number c.0 n ((j : ℕ) × (
     let r : (j : ℕ) × (above j (slice_set xs n y) (proto_by (slice_get xs c.0)) ≡ None) = ends_through k l xs n x y (proto_by (slice_get xs c.0)) e p a in
     (suc r.0, ap (λ o. above r.0 (slice_set xs n y) o) (ap (λ (o : Option Cell). proto_by o) (get_set_other xs n c.0 y d)) ∙ r.1))
 
-ends_of : (xs : List Cell) (o : Option CellId) → Ends xs → (k : ℕ) × (above k xs o ≡ None)
+pub ends_of : (xs : List Cell) (o : Option CellId) → Ends xs → (k : ℕ) × (above k xs o ≡ None)
 ends_of xs None s = (0, refl)
 ends_of xs (Some c) s = s c.0
 
@@ -124,7 +124,7 @@ some_by i d cells o c None e q = absurd (let a : None ≡ Some c = sym (above_ad
 some_by i d cells o c (Some b) e q = (b, q)
 
 -- a chain that goes so far is somewhere at each step before
-some_before : (i n : ℕ) (cells : List Cell) (o : Option CellId) (c : CellId) → i ≤ n → above n cells o ≡ Some c → (b : CellId) × (above i cells o ≡ Some b)
+pub some_before : (i n : ℕ) (cells : List Cell) (o : Option CellId) (c : CellId) → i ≤ n → above n cells o ≡ Some c → (b : CellId) × (above i cells o ≡ Some b)
 some_before i n cells o c l e =
     let s : i + (n - i) ≡ n = omega arith in
     some_by i (n - i) cells o c (above i cells o) (ap (λ j. above j cells o) s ∙ e) refl
@@ -158,18 +158,18 @@ squeezed_one n m f one i j p q e =
       ]
     ]
 
-pigeonhole : (n m : ℕ) (f : ℕ → ℕ) → ((i : ℕ) → i < n → f i < m) → ((i j : ℕ) → i < n → j < n → f i ≡ f j → i ≡ j) → n ≤ m
+pub pigeonhole : (n m : ℕ) (f : ℕ → ℕ) → ((i : ℕ) → i < n → f i < m) → ((i j : ℕ) → i < n → j < n → f i ≡ f j → i ≡ j) → n ≤ m
 pigeonhole zero m f into one = omega arith
 pigeonhole (suc n) zero f into one = let a : f n < 0 = into n (omega arith) in absurd (omega arith)
 pigeonhole (suc n) (suc m) f into one =
     let less : n ≤ m = pigeonhole n m (squeezed f m n) (squeezed_into n m f into one) (squeezed_one n m f one) in omega arith
 
-abbrev number_of : Option CellId → ℕ
+abbrev pub number_of : Option CellId → ℕ
 number_of None = 0
 number_of (Some c) = c.0
 
 -- two steps of a chain that ends come to two cells
-steps_apart : (cells : List Cell) (o : Option CellId) (k n i j : ℕ) (c : CellId) → above k cells o ≡ None → above n cells o ≡ Some c → i < j → j ≤ n → number_of (above i cells o) ≡ number_of (above j cells o) → ⊥
+pub steps_apart : (cells : List Cell) (o : Option CellId) (k n i j : ℕ) (c : CellId) → above k cells o ≡ None → above n cells o ≡ Some c → i < j → j ≤ n → number_of (above i cells o) ≡ number_of (above j cells o) → ⊥
 steps_apart cells o k n i j c e g l h q =
     let a : (b : CellId) × (above i cells o ≡ Some b) = some_before i n cells o c (omega arith) g in
     let b : (b : CellId) × (above j cells o ≡ Some b) = some_before j n cells o c h g in

@@ -6,4 +6,6 @@ mod Keys
 mod OwnerRows
 mod Chains
 mod Standards
+mod Within
+mod MachineChains
 mod HeapRows

@@ -143,3 +143,10 @@ sets_last s c at n read items new q e l m w =
     let p : at ≡ standard_index s items = q ∙ ap (λ r. standard_index s r) e in
     let h : length items ≤ standard_index s items = omega arith in
     rw (w, last_put s c items h) (put_sets s c items)
+
+-- a prototype that is set is the new one or stood
+pub set_within : (n : ℕ) (s t : Standard) (c d : CellId) (xs ys : List StandardPrototype) → Sets s c xs ys → c.0 < n → (IsSet xs t d → d.0 < n) → IsSet ys t d → d.0 < n
+set_within n s t c d xs ys w l h g = elim (standard_number t == standard_number s) as (λ b. (standard_number t == standard_number s) ≡ b → d.0 < n) [
+  | true ↦ λ e. let q : t ≡ s = told_same t s e in let r : d ≡ c = w.one d (rw q at g) in rw r l
+  | false ↦ λ e. h ((w.rest t d (told_other t s e)).0 g)
+] refl

@@ -14,7 +14,7 @@ use Rattle.js_objects.specs.declared.values.HeapFault.TheVariants as fault
 use Rattle.js_objects.specs.declared.cell.Cell.{Cell}
 use Rattle.js_objects.specs.Naming.{Names, value_of, values_of, property_of, bindings_of, holder_of}
 
--- an answer tells what a table gives: the cell, or which of its two refusals; only want of memory tells nothing
+-- an answer conforms to what a table gives: the cell, or which of its two refusals; only want of memory conforms to each
 abbrev pub Conforms : Result (Unit {0}) HeapFault → m.Cell → Result m.Cell ErrorKind → Type 0
 Conforms (Ok u) cell row = row ≡ Ok cell
 Conforms (Err fault.Sparse) cell row = row ≡ Err kind.Range

@@ -1,6 +1,6 @@
 -- What contracts see of a heap: its cells by number, what each owner has of them, and the limit (own).
-use Rattle.std.specs.Prelude.{◌≡◌, ◌≢◌, ◌+◌, ◌-◌, ◌≤◌, ◌↔◌, ◌++◌, ◌⊎◌, ℕ, zero, suc}
-use Rattle.std.specs.Prelude.{◌==◌, ◌<◌, List, [], ◌∷◌, Option, Some, None, length, slice_get, slice_set, if◌then◌else◌}
+use Rattle.std.specs.Prelude.{◌≡◌, ◌≢◌, ◌+◌, ◌-◌, ◌≤◌, ◌↔◌, ◌++◌, ◌⊎◌, ◌&&◌, ◌^◌, ℕ, zero, suc}
+use Rattle.std.specs.Prelude.{◌==◌, ◌<◌, List, [], ◌∷◌, Option, Some, None, length, slice_get, slice_set, is_some, if◌then◌else◌}
 use Rattle.std.specs.declared.result.Result.{Result}
 use Rattle.std.specs.declared.result.Result.TheVariants.{Ok, Err}
 use Rattle.door.specs.declared.values.Actor.{Actor}
@@ -12,6 +12,8 @@ use Rattle.js_objects.specs.declared.values.HeapFault.TheVariants as fault
 use Rattle.js_objects.specs.declared.cell.Cell.{Cell}
 use Rattle.js_objects.specs.declared.owner.Owner.{Owner}
 use Rattle.js_objects.specs.declared.owner.StandardPrototype.{StandardPrototype}
+use Rattle.js_objects.specs.declared.values.TheConstants.{PLACE_LIMIT}
+use Rattle.js_objects.specs.Within.{CellSound}
 
 pub record Store : Type 0 where
   pub cells : List Cell
@@ -110,6 +112,11 @@ abbrev pub owned : ℕ → List Cell → ℕ
 owned i [] = 0
 owned i (x ∷ xs) = if x.owner.0 == i then suc (owned i xs) else owned i xs
 
+-- how many of them have a place
+abbrev pub with_place : ℕ → List Cell → ℕ
+with_place i [] = 0
+with_place i (x ∷ xs) = if x.owner.0 == i && is_some x.place then suc (with_place i xs) else with_place i xs
+
 -- a cell that has this place of this owner
 abbrev pub HasPlace : ℕ → ℕ → Option Cell → Type 0
 HasPlace i p None = ⊥
@@ -191,11 +198,14 @@ AtLimit (Err fault.Kind) P = ⊥
 
 -- ---- what holds of every heap
 
--- Each owner's count is that of its cells, places and cells agree, so that two cells of one place are one, a prototype is a cell of
--- the heap, and no chain of prototypes closes.
+-- Each owner's count is that of its cells, places and cells agree, so that two cells of one place are one, each number that is kept is that of
+-- a cell, and no chain of prototypes closes. An owner has no more places than cells with one and those that may be left out.
 pub record Sound (h : Store) : Type 0 where
   pub counted : (i : ℕ) → count_of h i ≡ owned i h.cells
   pub placed : (i p : ℕ) (c : CellId) → slice_get (places h i) p ≡ Some (Some c) → HasPlace i p (slice_get h.cells c.0)
   pub listed : (i p n : ℕ) → HasPlace i p (slice_get h.cells n) → slice_get (places h i) p ≡ Some (Some (id n))
-  pub protos : (n : ℕ) (x : Cell) (c : CellId) → slice_get h.cells n ≡ Some x → x.proto ≡ Some c → c.0 < length h.cells
+  pub cell : (n : ℕ) (x : Cell) → slice_get h.cells n ≡ Some x → CellSound (length h.cells) x
+  pub standard : (i : ℕ) (s : Standard) (c : CellId) → IsSet (standards h i) s c → c.0 < length h.cells
   pub ends : Ends h.cells
+  pub bound : length h.cells ≤ 2 ^ 31
+  pub places_bound : (i : ℕ) → length (places h i) ≤ PLACE_LIMIT + with_place i h.cells

@@ -31,4 +31,5 @@ standard_index s (x ∷ xs) = if standard_number x.standard == standard_number s
 
 abbrev pub standard_put : Standard → CellId → List StandardPrototype → List StandardPrototype
 standard_put s c [] = record { standard = s; cell = c } ∷ []
-standard_put s c (x ∷ xs) = if standard_number x.standard == standard_number s then record { standard = x.standard; cell = c } ∷ xs else x ∷ standard_put s c xs
+standard_put s c (x ∷ xs) =
+    if standard_number x.standard == standard_number s then record { standard = x.standard; cell = c } ∷ xs else x ∷ standard_put s c xs

@@ -1,6 +1,6 @@
 //! A cell: its owner, what it is, and what it holds of its own (ECMAScript, 10.1 and 10.4.2).
 
-ghost use Rattle.std.specs.Prelude.{◌≡◌, ◌≤◌, ◌++◌, OnErr, OnOk, IfOk, None};
+ghost use Rattle.std.specs.Prelude.{◌≡◌, ◌≢◌, ◌≤◌, ◌++◌, OnErr, OnOk, IfOk, None};
 ghost use Rattle.std.specs.Fmt.{decimal};
 ghost use Rattle.std.specs.Option.{option_copied};
 ghost use Rattle.js_semantics.specs.Properties.{own_of, own_keys, array_own, place_spelled, places_from, MAX_NUMBER};
@@ -83,6 +83,7 @@ impl Cell {
     pub(crate) fn define(&mut self, key: &Text, prop: Prop) -> Result<(), HeapFault>
         ensures row { Defines self.old self.new key.now prop result }
         ensures rest { self.new ≡ record self.old { elements = self.new.elements; slots = self.new.slots } }
+        ensures other { self.old.form ≢ Array → self.new.elements ≡ self.old.elements }
         ensures err { OnErr result (self.new ≡ self.old) }
     {
         match &self.form {

@@ -1,23 +1,27 @@
 //! The heap: the cells of all actors by number, and the calls that read and change them.
 
-ghost use Rattle.std.specs.Prelude.{◌≡◌, ◌<◌, ◌≤◌, ◌-◌, ◌^◌, ◌↔◌, ◌++◌, ◌∷◌, [], ℕ, OnOk, OnErr, IfOk, IfErr, IfSome, IfNone, IsErrOf};
-ghost use Rattle.std.specs.Prelude.{Some, None, length, slice_get};
+ghost use Rattle.std.specs.Prelude.{◌≡◌, ◌≢◌, ◌<◌, ◌≤◌, ◌-◌, ◌^◌, ◌↔◌, ◌++◌, ◌∷◌, [], ℕ, OnOk, OnErr, IfOk, IfErr, IfSome, IfNone, IsErrOf};
+ghost use Rattle.std.specs.Prelude.{Some, None, length, slice_get, true};
 ghost use Rattle.std.specs.Option.{option_copied};
 ghost use Rattle.js_semantics.specs.Properties.{own_of, own_keys};
 ghost use Rattle.js_objects.specs.declared.cell.Cell.{Cell as AnyCell};
-ghost use Rattle.js_objects.specs.declared.values.Form.TheVariants.{Scope};
+ghost use Rattle.js_objects.specs.declared.values.Form.TheVariants.{Array, Scope};
 ghost use Rattle.js_objects.specs.declared.values.HeapFault.TheVariants as fault;
-ghost use Rattle.js_objects.specs.Naming.{Names, holder_of};
+ghost use Rattle.js_semantics.specs.Machine.{Machine};
+ghost use Rattle.js_semantics.specs.Natives.{closes};
+ghost use Rattle.js_objects.specs.MachineChains.{HasChain};
+ghost use Rattle.js_objects.specs.Naming.{Names, holder_of, reference_of, MayHavePlace};
+ghost use Rattle.js_objects.specs.Within.{IdWithin, SlotWithin, PropWithin, FormWithin};
 ghost use Rattle.js_objects.specs.Defines.{Binds, BoundAs, Defines, ReadsAs, Removes};
 ghost use Rattle.js_objects.specs.Heaps.{fresh_cell, owned, count_by, Closes, HasPlace, SameOwners, SameRest, CountsOne};
 ghost use Rattle.js_objects.specs.ChainsModel.{comes_to};
-ghost use Rattle.js_objects.specs.Heaps.{AtLimit, Changed, GivesPlace, SkipsPlaces, HasStandard, SetsStandard};
+ghost use Rattle.js_objects.specs.Heaps.{AtLimit, Changed, GivesPlace, SkipsPlaces, HasStandard, SetsStandard, Sound};
 ghost use Rattle.js_objects.specs.declared.values.CellId.{CellId as AnyId};
 ghost use Rattle.js_objects.specs.declared.values.TheConstants.{PLACE_LIMIT};
 
 use crate::cell::Cell;
 use crate::owner::{
-    Owner, add_place, cell_among, entry_of, reserve, put_standard_for, skip_to, standard_among,
+    Owner, add_place, cell_among, entry_of, put_standard_for, reserve, skip_to, standard_among,
 };
 use crate::values::{CellId, Form, HeapFault, Prop, Slot, Standard};
 use base_text::{Mem, Text};
@@ -64,7 +68,8 @@ impl Heap {
     /// Adds a cell that holds nothing, and has no place. It is refused as CellLimit exactly where its owner has as
     /// many as the limit.
     pub fn add_cell(&mut self, owner: Actor, form: Form) -> Result<CellId, HeapFault>
-        requires { length self.old.cells < 2 ^ 31 }
+        requires bound { length self.old.cells < 2 ^ 31 }
+        requires within { FormWithin (length self.old.cells) form }
         ensures ok { IfOk result (λ n. (n.0 ≡ length self.old.cells) × (self.new.cells ≡ self.old.cells ++ fresh_cell owner form None ∷ [])) }
         ensures err { OnErr result (self.new.cells ≡ self.old.cells) }
         ensures rest { SameRest self.old self.new }
@@ -75,7 +80,8 @@ impl Heap {
 
     /// Adds a scope without names.
     pub fn scope_new(&mut self, owner: Actor, outer: Option<CellId>) -> Result<CellId, HeapFault>
-        requires { length self.old.cells < 2 ^ 31 }
+        requires bound { length self.old.cells < 2 ^ 31 }
+        requires within { IdWithin (length self.old.cells) outer }
         ensures ok { IfOk result (λ n. (n.0 ≡ length self.old.cells) × (self.new.cells ≡ self.old.cells ++ fresh_cell owner Scope outer ∷ [])) }
         ensures err { OnErr result (self.new.cells ≡ self.old.cells) }
         ensures rest { SameRest self.old self.new }
@@ -85,7 +91,9 @@ impl Heap {
     }
 
     fn add(&mut self, owner: Actor, form: Form, outer: Option<CellId>) -> Result<CellId, HeapFault>
-        requires { length self.old.cells < 2 ^ 31 }
+        requires bound { length self.old.cells < 2 ^ 31 }
+        requires form { FormWithin (length self.old.cells) form }
+        requires outer { IdWithin (length self.old.cells) outer }
         ensures ok { IfOk result (λ n. (n.0 ≡ length self.old.cells) × (self.new.cells ≡ self.old.cells ++ fresh_cell owner form outer ∷ [])) }
         ensures err { OnErr result (self.new.cells ≡ self.old.cells) }
         ensures rest { SameRest self.old self.new }
@@ -103,16 +111,18 @@ impl Heap {
         Ok(at)
     }
 
-    /// How many cells there are.
+    /// How many cells there are. Its clauses say also what holds of every heap.
     pub fn count(&self) -> u64
-        ensures { result ≡ length self.now.cells }
+        ensures exact { result ≡ length self.now.cells }
+        ensures sound { Sound self.now }
     {
         self.cells.len() as u64
     }
 
     /// How many cells an owner may still have: the limit less its cells.
     pub fn room(&self, owner: Actor) -> u32
-        ensures { result ≡ self.now.limit - owned owner.0 self.now.cells }
+        ensures exact { result ≡ self.now.limit - owned owner.0 self.now.cells }
+        ensures full { (result ≡ 0) ↔ (self.now.limit ≤ owned owner.0 self.now.cells) }
     {
         match entry_of(&self.owners, owner) {
             Some(entry) => self.limit.saturating_sub(entry.cells),
@@ -123,15 +133,18 @@ impl Heap {
     /// The own property under a key.
     pub fn own(&self, c: CellId, key: &Text) -> Option<&Prop>
         requires { c.0 < length self.now.cells }
-        ensures { (x : AnyCell) → slice_get self.now.cells c.0 ≡ Some x → ReadsAs (λ names. own_of (holder_of names x) key.now) (option_copied result) }
+        ensures row { (x : AnyCell) → slice_get self.now.cells c.0 ≡ Some x → ReadsAs (λ names. own_of (holder_of names x) key.now) (option_copied result) }
+        ensures within { IfSome (option_copied result) (PropWithin (length self.now.cells)) }
     {
         self.cells[c.0 as usize].own(key)
     }
 
-    /// Defines an own property.
+    /// Defines an own property. Where the cell is no array it has no elements before and after.
     pub fn define(&mut self, c: CellId, key: &Text, prop: Prop) -> Result<(), HeapFault>
-        requires { c.0 < length self.old.cells }
+        requires at { c.0 < length self.old.cells }
+        requires within { PropWithin (length self.old.cells) prop }
         ensures row { Changed self.old self.new c.0 (λ x y. Defines x y key.now prop result × (y ≡ record x { elements = y.elements; slots = y.slots })) }
+        ensures dense { (y : AnyCell) → slice_get self.new.cells c.0 ≡ Some y → y.form ≢ Array → y.elements ≡ [] }
         ensures err { OnErr result (self.new ≡ self.old) }
     {
         self.cells[c.0 as usize].define(key, prop)
@@ -159,7 +172,7 @@ impl Heap {
     pub fn proto(&self, c: CellId) -> Option<CellId>
         requires { c.0 < length self.now.cells }
         ensures exact { (x : AnyCell) → slice_get self.now.cells c.0 ≡ Some x → result ≡ x.proto }
-        ensures within { IfSome result (λ p. p.0 < length self.now.cells) }
+        ensures within { IdWithin (length self.now.cells) result }
     {
         self.cells[c.0 as usize].proto
     }
@@ -167,10 +180,11 @@ impl Heap {
     /// Sets the prototype. It is refused as Cycle exactly where the chain would close.
     pub fn set_proto(&mut self, c: CellId, p: Option<CellId>) -> Result<(), HeapFault>
         requires at { c.0 < length self.old.cells }
-        requires within { IfSome p (λ q. q.0 < length self.old.cells) }
+        requires within { IdWithin (length self.old.cells) p }
         ensures ok { OnOk result (Changed self.old self.new c.0 (λ x y. y ≡ record x { proto = p })) }
         ensures err { OnErr result (self.new ≡ self.old) }
         ensures cycle { IsErrOf result HeapFault.Cycle ↔ Closes self.old.cells c.0 p }
+        ensures machine { (names : Names) (m : Machine) → HasChain names m self.old.cells c.0 p → IsErrOf result HeapFault.Cycle ↔ (closes m (names.reference c.0) (reference_of names p) ≡ true) }
         ensures only { IfErr result (λ e. e ≡ fault.Cycle) }
     {
         if self.closes(c, p) {
@@ -182,7 +196,7 @@ impl Heap {
 
     /// Whether a chain of prototypes comes to a cell.
     fn closes(&self, c: CellId, p: Option<CellId>) -> bool
-        requires { IfSome p (λ q. q.0 < length self.now.cells) }
+        requires { IdWithin (length self.now.cells) p }
         ensures { result ≡ comes_to (length self.now.cells) self.now.cells c.0 p }
     {
         let mut next = p;
@@ -213,7 +227,8 @@ impl Heap {
     /// What a cell is.
     pub fn form(&self, c: CellId) -> &Form
         requires { c.0 < length self.now.cells }
-        ensures { (x : AnyCell) → slice_get self.now.cells c.0 ≡ Some x → result.now ≡ x.form }
+        ensures exact { (x : AnyCell) → slice_get self.now.cells c.0 ≡ Some x → result.now ≡ x.form }
+        ensures within { FormWithin (length self.now.cells) result.now }
     {
         &self.cells[c.0 as usize].form
     }
@@ -230,6 +245,7 @@ impl Heap {
     pub fn at_place(&self, owner: Actor, place: u32) -> Option<CellId>
         ensures some { IfSome result (λ c. HasPlace owner.0 place (slice_get self.now.cells c.0)) }
         ensures none { IfNone result ((n : ℕ) → HasPlace owner.0 place (slice_get self.now.cells n) → ⊥) }
+        ensures within { IdWithin (length self.now.cells) result }
     {
         match entry_of(&self.owners, owner) {
             Some(entry) => cell_among(entry, place),
@@ -237,9 +253,10 @@ impl Heap {
         }
     }
 
-    /// Gives a cell its owner's next place, unless it has one, and answers its place.
+    /// Gives a proper cell or a link its owner's next place, unless it has one, and answers its place.
     pub fn give_place(&mut self, c: CellId) -> Mem<u32>
-        requires { c.0 < length self.old.cells }
+        requires at { c.0 < length self.old.cells }
+        requires may_have_place { (x : AnyCell) → slice_get self.old.cells c.0 ≡ Some x → MayHavePlace x.form }
         ensures ok { IfOk result (λ p. (x : AnyCell) → slice_get self.old.cells c.0 ≡ Some x → GivesPlace self.old self.new c.0 p x x.place) }
         ensures err { OnErr result ((self.new.cells ≡ self.old.cells) × SameRest self.old self.new) }
     {
@@ -266,6 +283,7 @@ impl Heap {
     pub fn standard(&self, owner: Actor, s: Standard) -> Option<CellId>
         ensures some { IfSome result (λ c. HasStandard self.now owner.0 s c) }
         ensures none { IfNone result ((c : AnyId) → HasStandard self.now owner.0 s c → ⊥) }
+        ensures within { IdWithin (length self.now.cells) result }
     {
         match entry_of(&self.owners, owner) {
             Some(entry) => standard_among(entry, s),
@@ -286,7 +304,8 @@ impl Heap {
     /// The scope around a scope.
     pub fn scope_outer(&self, s: CellId) -> Option<CellId>
         requires { s.0 < length self.now.cells }
-        ensures { (x : AnyCell) → slice_get self.now.cells s.0 ≡ Some x → result ≡ x.outer }
+        ensures exact { (x : AnyCell) → slice_get self.now.cells s.0 ≡ Some x → result ≡ x.outer }
+        ensures within { IdWithin (length self.now.cells) result }
     {
         self.cells[s.0 as usize].outer
     }
@@ -294,14 +313,16 @@ impl Heap {
     /// The value of a name in one scope.
     pub fn scope_get(&self, s: CellId, name: &Text) -> Option<&Slot>
         requires { s.0 < length self.now.cells }
-        ensures { (x : AnyCell) → slice_get self.now.cells s.0 ≡ Some x → BoundAs x name.now (option_copied result) }
+        ensures row { (x : AnyCell) → slice_get self.now.cells s.0 ≡ Some x → BoundAs x name.now (option_copied result) }
+        ensures within { IfSome (option_copied result) (SlotWithin (length self.now.cells)) }
     {
         self.cells[s.0 as usize].bindings.find(name)
     }
 
     /// Gives a name a value in one scope.
     pub fn scope_set(&mut self, s: CellId, name: &Text, value: Slot) -> Mem<()>
-        requires { s.0 < length self.old.cells }
+        requires at { s.0 < length self.old.cells }
+        requires within { SlotWithin (length self.old.cells) value }
         ensures ok { OnOk result (Changed self.old self.new s.0 (λ x y. Binds x y name.now value × (y ≡ record x { bindings = y.bindings }))) }
         ensures err { OnErr result (self.new ≡ self.old) }
     {

@@ -1,6 +1,6 @@
 //! What one actor has of the heap: how many cells, which of them has which place, and its standard prototypes.
 
-ghost use Rattle.std.specs.Prelude.{◌≡◌, ◌≤◌, ◌<◌, ◌-◌, ◌++◌, ◌∷◌, [], OnOk, OnErr, IfOk, IfSome, IfNone, Some, length, slice_get};
+ghost use Rattle.std.specs.Prelude.{◌≡◌, ◌≤◌, ◌<◌, ◌-◌, ◌^◌, ◌++◌, ◌∷◌, [], OnOk, OnErr, IfOk, IfSome, IfNone, Some, length, slice_get};
 ghost use Rattle.std.specs.Option.{option_copied};
 ghost use Rattle.js_objects.specs.Heaps.{SameOwners, HasMorePlaces, IsSet, Sets, SetsFor, places_by, cell_by, no_cells};
 ghost use Rattle.js_objects.specs.StandardsModel.{standard_number, kind_number, standard_index};
@@ -62,15 +62,13 @@ pub(crate) fn add_place(
     cell: CellId,
     alloc: Global,
 ) -> Mem<u32>
+    requires { length (places_by (slice_get owners.old.items owner.0)) < 2 ^ 32 - 1 }
     ensures next { IfOk result (λ p. p ≡ length (places_by (slice_get owners.old.items owner.0))) }
     ensures ok { OnOk result (HasMorePlaces owner.0 (Some cell ∷ []) owners.old.items owners.new.items) }
     ensures err { OnErr result (SameOwners owners.old.items owners.new.items) }
 {
     reserve(owners, owner, alloc)?;
     let places = &mut owners[owner.0 as usize].places;
-    if places.len() >= u32::MAX as usize {
-        return Err(NoMemory);
-    }
     let place = places.len() as u32;
     places.push(Some(cell))?;
     Ok(place)

@@ -1,5 +1,9 @@
 //! What no clause says: that each call succeeds while there is memory, and the order of keys after many changes.
-ghost use Rattle.std.specs.Prelude.{◌≡◌, nat_lt, length};
+ghost use Rattle.std.specs.Prelude.{◌≡◌, ℕ, nat_lt, length, true};
+ghost use Rattle.js_objects.specs.Naming.{MayHavePlace};
+ghost use Rattle.js_objects.specs.Within.{PropWithin, FormWithin};
+ghost use Rattle.js_objects.specs.declared.values.Slot.TheVariants.{Prim};
+ghost use Rattle.js_ops.specs.declared.primitive.Primitive.TheVariants.{Number as NumberPrim};
 
 use crate::*;
 use base_text::Text;
@@ -12,7 +16,9 @@ use std::test::Fail;
 
 const SCRIPT: Actor = Actor(2);
 
-fn number(n: i64) -> Slot {
+fn number(n: i64) -> Slot
+    ensures { result ≡ Prim (NumberPrim n) }
+{
     Slot::Prim(Primitive::Number(n))
 }
 
@@ -34,8 +40,49 @@ fn stands(heap: &Heap, c: CellId) -> bool
     (c.0 as u64) < heap.count()
 }
 
+/// Whether a form names no cell.
+fn is_alone(form: &Form) -> bool
+    ensures { (result ≡ true) → (n : ℕ) → FormWithin n form.now }
+{
+    match form {
+        Form::Plain => true,
+        Form::Array => true,
+        _ => false,
+    }
+}
+
+/// Whether a property names no cell.
+fn is_plain(prop: &Prop) -> bool
+    ensures { (result ≡ true) → (n : ℕ) → PropWithin n prop.now }
+{
+    match prop {
+        Prop::Slot {
+            value: Slot::Prim(_),
+            ..
+        } => true,
+        Prop::Accessor {
+            get: None,
+            set: None,
+            ..
+        } => true,
+        _ => false,
+    }
+}
+
+/// Whether a form is that of a cell which may have a place.
+fn is_placed(form: &Form) -> bool
+    ensures { (result ≡ true) → MayHavePlace form.now }
+{
+    match form {
+        Form::Plain => true,
+        Form::Array => true,
+        _ => false,
+    }
+}
+
 fn add(rt: &impl Abort, heap: &mut Heap, owner: Actor, form: Form) -> Result<CellId, HeapFault> {
     assert!(rt; heap.count() < 1_000_000);
+    assert!(rt; is_alone(&form));
     heap.add_cell(owner, form)
 }
 
@@ -46,7 +93,11 @@ fn add_scope(
     outer: Option<CellId>,
 ) -> Result<CellId, HeapFault> {
     assert!(rt; heap.count() < 1_000_000);
-    heap.scope_new(owner, outer)
+    if let Some(outer) = outer {
+        assert!(rt; stands(heap, outer));
+        return heap.scope_new(owner, Some(outer));
+    }
+    heap.scope_new(owner, None)
 }
 
 /// Defines a property, and answers why it can't be.
@@ -58,6 +109,7 @@ fn define(
     prop: Prop,
 ) -> Option<HeapFault> {
     assert!(rt; stands(heap, c));
+    assert!(rt; is_plain(&prop));
     heap.define(c, key, prop).err()
 }
 
@@ -120,6 +172,7 @@ fn place(rt: &impl Abort, heap: &Heap, c: CellId) -> Option<u32> {
 
 fn give_place(rt: &impl Abort, heap: &mut Heap, c: CellId) -> Result<u32, Fail> {
     assert!(rt; stands(heap, c));
+    assert!(rt; is_placed(heap.form(c)));
     Ok(heap.give_place(c)?)
 }
 
@@ -129,15 +182,9 @@ fn set_standard(rt: &impl Abort, heap: &mut Heap, s: Standard, c: CellId) -> Res
     Ok(())
 }
 
-fn scope_set(
-    rt: &impl Abort,
-    heap: &mut Heap,
-    s: CellId,
-    name: &Text,
-    value: Slot,
-) -> Result<(), Fail> {
+fn scope_set(rt: &impl Abort, heap: &mut Heap, s: CellId, name: &Text, n: i64) -> Result<(), Fail> {
     assert!(rt; stands(heap, s));
-    heap.scope_set(s, name, value)?;
+    heap.scope_set(s, name, number(n))?;
     Ok(())
 }
 
@@ -420,8 +467,8 @@ fn standards_and_scopes(rt: HostRuntime) -> Result<(), Fail> {
     assert_eq!(rt; heap.scope_outer(outer), None);
     assert_eq!(rt; heap.scope_outer(inner), Some(outer));
     let x = Text::of(alloc, "x")?;
-    scope_set(&rt, &mut heap, outer, &x, number(1))?;
-    scope_set(&rt, &mut heap, outer, &x, number(2))?;
+    scope_set(&rt, &mut heap, outer, &x, 1)?;
+    scope_set(&rt, &mut heap, outer, &x, 2)?;
     assert!(rt;
         matches!(
             scope_get(&rt, &heap, outer, &x),

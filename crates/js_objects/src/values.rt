@@ -10,7 +10,7 @@ use std::alloc::{AllocError, AllocFailed};
 pub const PLACE_LIMIT: u32 = 1_000;
 
 /// A cell, by its number on the heap.
-#[derive(Clone, Copy, Debug, PartialEq, Eq)]
+#[derive(Clone, Copy, Debug, PartialEq, Eq, PartialOrd, Ord)]
 pub struct CellId(pub u32);
 
 /// A value that a cell holds (ECMAScript, 6.1).
