@@ -10,6 +10,7 @@ use Rattle.std.proofs.lemmas.Bool.{ltb-false}
 use Rattle.js_semantics.specs.Machine as m
 use Rattle.js_semantics.specs.Properties.{is_enumerable, property_in, defined_in, removed_in, keys_in, form_own, form_keys, form_defined, form_removed, own_of, own_keys, defined_of, removed_of, array_own, array_removed, slot_defined, slot_removed, length_key, place_spelled, places_from, element, with_elements, element_defined, length_defined}
 use Rattle.door.specs.declared.requests.ErrorKind.{ErrorKind}
+use Rattle.door.specs.declared.values.Actor.{Actor}
 use Rattle.door.specs.declared.requests.ErrorKind.TheVariants as kind
 use Rattle.js_objects.specs.Defines.{RemovesAs}
 use Rattle.js_objects.specs.declared.values.Slot.{Slot}

@@ -60,6 +60,10 @@ own_in h now n x key o v s l e r = read_sound (length now.cells) x key o (here_s
 pub name_in_scope : (h now : Store) (n : ℕ) (x : Cell) (name : List ℕ) (o : Option Slot) → h ≡ now → Sound h → n < length now.cells → x ≡ slice_index_or h.cells n x → o ≡ name_in name x.bindings → IfSome o (SlotWithin (length now.cells))
 name_in_scope h now n x name o v s l e q = rw q (name_sound (length now.cells) name x.bindings (here_sound h now n x v s l e).bindings)
 
+-- what is asked of a number of cells is asked of that of the heap's own
+pub at_count : (P : ℕ → Type 0) (h now : Store) → h ≡ now → P (length now.cells) → P (length h.cells)
+at_count P h now v p = subst (λ (s : Store). P (length s.cells)) (sym v) p
+
 -- prototypes are cells of the heap
 pub protos_of : (h : Store) → Sound h → InHeap h.cells
 protos_of h s = λ n x c g w. some_within (length h.cells) x.proto c (s.cell n x g).proto w
@@ -141,8 +145,8 @@ on_err (Ok a) g h = tt
 on_err (Err e) g h = g h
 
 -- what is no array has no elements
-pub dense_in : (h k : Store) (n : ℕ) (x y z : Cell) → slice_get h.cells n ≡ Some x → k.cells ≡ slice_set h.cells n y → slice_get k.cells n ≡ Some z → CellSound (length h.cells) y → z.form ≢ Array → z.elements ≡ []
-dense_in h k n x y z e c g s = let same : y ≡ z = same_Some y z (sym (get_set_same h.cells n y x e) ∙ (rw c at g)) in rw (← same) s.dense
+pub dense_in : (xs ys : List Cell) (n : ℕ) (x y z : Cell) → slice_get xs n ≡ Some x → ys ≡ slice_set xs n y → slice_get ys n ≡ Some z → CellSound (length xs) y → z.form ≢ Array → z.elements ≡ []
+dense_in xs ys n x y z e c g s = let same : y ≡ z = same_Some y z (sym (get_set_same xs n y x e) ∙ (rw c at g)) in rw (← same) s.dense
 
 -- ---- owners' entries change and no cell does
 
@@ -185,7 +189,7 @@ has_place_old (z ∷ xs) x zero i p e h = h
 has_place_old (z ∷ xs) x (suc k) i p e h = has_place_old xs x k i p e h
 
 with_place_pushed : (i : ℕ) (xs : List Cell) (x : Cell) → x.place ≡ None → with_place i (xs ++ x ∷ []) ≡ with_place i xs
-with_place_pushed i [] x e = elim (x.owner.0 == i) as (λ b. (if b && is_some x.place then 1 else 0) ≡ 0) [ true ↦ rw e refl | false ↦ refl ]
+with_place_pushed i [] x e = elim (x.owner.0 == i) as (λ b. (if b && is_some x.place then suc zero else zero) ≡ zero) [ true ↦ rw e refl | false ↦ refl ]
 with_place_pushed i (y ∷ ys) x e =
     elim (y.owner.0 == i && is_some y.place) as (λ b. (if b then suc (with_place i (ys ++ x ∷ [])) else with_place i (ys ++ x ∷ [])) ≡ (if b then suc (with_place i ys) else with_place i ys)) [
       | true ↦ ap (λ n. suc n) (with_place_pushed i ys x e)
@@ -217,8 +221,8 @@ added_sound h k x s c o e t a l = record {
 pub fresh_in : (h now : Store) (x : Cell) (owner : Actor) (form : Form) (outer : Option CellId) → h ≡ now → x ≡ fresh_cell owner form outer → FormWithin (length now.cells) form → IdWithin (length now.cells) outer → CellSound (length h.cells) x
 fresh_in h now x owner form outer v e a b = rw (v, e) (fresh_sound (length now.cells) owner form outer a b)
 
-pub bound_in : (h now : Store) → h ≡ now → length now.cells < 2 ^ 31 → length h.cells < 2 ^ 31
-bound_in h now v l = rw v l
+pub bound_here : (h now : Store) → h ≡ now → length now.cells < 2 ^ 31 → length h.cells < 2 ^ 31
+bound_here h now v l = rw v l
 
 pub added_rest : (h now k : Store) (n : ℕ) → h ≡ now → CountsOne n h.owners k.owners → k.limit ≡ h.limit → SameRest now k
 unfolding places standards
@@ -522,7 +526,7 @@ proto_stays h now n x p b v s e l f q = record {
   owner = refl;
   place = refl;
   sound = proto_sound (length h.cells) x p (s.cell n x e) (rw v l);
-  ends = ends_set h.cells n x (record x { proto = p }) e (λ w. not_both_ways b (comes_to (length now.cells) now.cells n p) f q (true_closes now.cells n p (rw v at protos_of h s) (rw v at s.ends) l (rw v at w))) s.ends;
+  ends = ends_set h.cells n x (record x { proto = p }) e (λ w. not_both_ways b (comes_to (length now.cells) now.cells n p) f q (true_closes now.cells n p (rw v at (protos_of h s)) (rw v at s.ends) l (rw v at w))) s.ends;
 }
 
 pub closed : {A : Type 0} (r : Result A HeapFault) (now : Store) (n : ℕ) (p : Option CellId) (b : Bool) → r ≡ Err fault.Cycle → b ≡ true → b ≡ comes_to (length now.cells) now.cells n p → IsErrOf r fault.Cycle ↔ Closes now.cells n p
@@ -532,7 +536,7 @@ no_error : {A : Type 0} (a : A) (r : Result A HeapFault) → r ≡ Ok a → r �
 no_error a r e w = cc
 
 pub not_closed : {A : Type 0} (a : A) (r : Result A HeapFault) (h now : Store) (n : ℕ) (p : Option CellId) (b : Bool) → r ≡ Ok a → h ≡ now → Sound h → IfSome p (λ q. q.0 < length now.cells) → b ≡ false → b ≡ comes_to (length now.cells) now.cells n p → IsErrOf r fault.Cycle ↔ Closes now.cells n p
-not_closed a r h now n p b e v s l f q = (λ w. absurd (no_error a r e w), λ w. absurd (not_both_ways b (comes_to (length now.cells) now.cells n p) f q (true_closes now.cells n p (rw v at protos_of h s) (rw v at s.ends) l w)))
+not_closed a r h now n p b e v s l f q = (λ w. absurd (no_error a r e w), λ w. absurd (not_both_ways b (comes_to (length now.cells) now.cells n p) f q (true_closes now.cells n p (rw v at (protos_of h s)) (rw v at s.ends) l w)))
 
 -- in the heap and in a machine that has the chain
 pub closed_there : {A : Type 0} (r : Result A HeapFault) (names : Names) (machine : Machine) (h now : Store) (n : ℕ) (p : Option CellId) → h ≡ now → Sound h → HasChain names machine now.cells n p → (IsErrOf r fault.Cycle ↔ Closes now.cells n p) → IsErrOf r fault.Cycle ↔ (closes machine (names.reference n) (reference_of names p) ≡ true)

@@ -1,7 +1,7 @@
 -- What a cell names is of the heap after each change, since each table of the machine gives nothing but what it is given. A naming by the
 -- numbers of cells shows which these are.
 use Rattle.std.proofs.Common.{◌≡◌, ◌≢◌, ℕ, zero, suc, ◌<◌, ◌≤◌, List, [], ◌∷◌, ◌++◌, refl, sym, ap, subst, ◌∙◌, length, map, take, arith, Option, Some, None, Result, Ok, Err}
-use Rattle.std.specs.Prelude.{slice_get, slice_set, slice_index_or, option_map, if◌then◌else◌, true, false, Bool, nat_lt, nat_le, ◌==◌, IfSome, IfOk, OnErr, OnOk, pos, negsuc}
+use Rattle.std.specs.Prelude.{slice_get, slice_set, slice_index_or, option_map, if◌then◌else◌, true, false, Bool, nat_lt, nat_le, ◌==◌, IfSome, IfOk, OnErr, OnOk, ℤ, pos, negsuc}
 use Rattle.std.specs.List.{All}
 use Rattle.std.specs.Str.{bytes_eq}
 use Rattle.std.proofs.lemmas.List.Elements.{All-take, All-append, All-nil}
@@ -316,13 +316,13 @@ define_sound n x y key p (Ok u) s a e d t w =
 define_sound n x y key p (Err why) s a e d t w = rw w s
 
 removed_holder : (n : ℕ) (x y : Cell) (key : List ℕ) (b : Bool) (r : Result m.Cell ErrorKind) → MachineCellWithin n (holder_of by_number x) → GivesWithin n r → RemovesAs by_number x y key b r → MachineCellWithin n (holder_of by_number y)
-removed_holder n x y key b (Ok left) s g w = rw w.0 g
-removed_holder n x y key b (Err why) s g w = rw w.0 s
+removed_holder n x y key b (Ok left) s g w = subst (λ (c : m.Cell). MachineCellWithin n c) (sym w.0) g
+removed_holder n x y key b (Err why) s g w = subst (λ (z : Cell). MachineCellWithin n (holder_of by_number z)) (sym w.0) s
 
 pub remove_sound : (n : ℕ) (x y : Cell) (key : List ℕ) (b : Bool) → CellSound n x → y ≡ record x { slots = y.slots } → Removes x y key b → CellSound n y
 remove_sound n x y key b s e t =
     let els : y.elements ≡ x.elements = ap (λ (c : Cell). c.elements) e in
-    let g : y ≡ record x { elements = y.elements; slots = y.slots } = rw els e in
+    let g : y ≡ record x { elements = y.elements; slots = y.slots } = e ∙ ap (λ (items : List Slot). record x { elements = items; slots = y.slots }) (sym els) in
     rewritten n x y s g (λ d. els)
     (removed_holder n x y key b (removed_of (holder_of by_number x) key) (holder_there n x s) (removed_within n (holder_of by_number x).form (holder_of by_number x) key (holder_there n x s)) (t by_number))
 

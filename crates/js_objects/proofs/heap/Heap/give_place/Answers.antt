@@ -15,5 +15,5 @@ invariant_of-self-2 c = given_all _ _ _ _ _ c.index.result.now c.index-2.result.
 pub returns-clause-ok : goal.returns-clause-ok
 returns-clause-ok c = λ x e. gives_all _ _ _ _ _ c.index.result.now c.index-2.result.now c.index_mut.result.now x c.self.view_is c.requires.at c.index.ensures c.index-2.ensures c.index_mut.ensures.value c.in_default.not-Some c.in_ok-place.ensures.next c.in_ok-place.ensures.ok refl refl e
 
-pub add_place-place-requires : goal.add_place-place-requires
-add_place-place-requires c = few_places _ _ c.self.invariant
+pub add_place-requires : goal.add_place-requires
+add_place-requires c = few_places _ _ c.self.invariant
