@@ -1,0 +1,6 @@
+mod Lists
+mod Names
+mod Rows
+mod PartWrites
+mod PartReads
+mod PartCalls
