@@ -150,12 +150,12 @@ kept_one f g p (z ∷ xs) (suc n) zero x y u v t e d q w s =
     let c : 0 ≡ suc (length (filter p (take n (map g xs)))) = sym s ∙ count_yes p (g z) (take n (map g xs)) yes in absurd (omega arith)
 kept_one f g p (z ∷ xs) (suc n) (suc k) x y u v t e d q w s =
     let less : length (filter p (take n (map g xs))) ≡ length (filter p (take k (map g xs))) =
-        by_kept (f z) (p (g z)) (length (filter p (take n (map g xs))) ≡ length (filter p (take k (map g xs)))) (t z)
-        (λ none no. sym (count_no p (g z) (take n (map g xs)) no) ∙ (s ∙ count_no p (g z) (take k (map g xs)) no))
-        (λ b some yes.
-        let c : suc (length (filter p (take n (map g xs)))) ≡ suc (length (filter p (take k (map g xs)))) =
-            sym (count_yes p (g z) (take n (map g xs)) yes) ∙ (s ∙ count_yes p (g z) (take k (map g xs)) yes) in
-        omega arith) in
+    by_kept (f z) (p (g z)) (length (filter p (take n (map g xs))) ≡ length (filter p (take k (map g xs)))) (t z)
+    (λ none no. sym (count_no p (g z) (take n (map g xs)) no) ∙ (s ∙ count_no p (g z) (take k (map g xs)) no))
+    (λ b some yes.
+    let c : suc (length (filter p (take n (map g xs)))) ≡ suc (length (filter p (take k (map g xs)))) =
+    sym (count_yes p (g z) (take n (map g xs)) yes) ∙ (s ∙ count_yes p (g z) (take k (map g xs)) yes) in
+    omega arith) in
     ap (λ j. suc j) (kept_one f g p xs n k x y u v t e d q w less)
 
 -- so many are kept

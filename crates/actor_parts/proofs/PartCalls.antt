@@ -73,11 +73,13 @@ defined h k n x key prop result d e =
     let c : Changed h k n (λ x y. Defines x y key prop result × (y ≡ record x { elements = y.elements; slots = y.slots })) = d.changed in
     let s : c.before ≡ x = same_Some c.before x (sym c.was ∙ e) in
     let y : Cell = c.after in
-    let row : Defines x y key prop result × (y ≡ record x { elements = y.elements; slots = y.slots }) = subst (λ (u : Cell). Defines u y key prop result × (y ≡ record u { elements = y.elements; slots = y.slots })) s c.row in
-    (y, record {
-      rewritten = rewrites h k n x y e c.now (ap (λ (u : Cell). u.owner) row.1) (ap (λ (u : Cell). u.form) row.1) (ap (λ (u : Cell). u.place) row.1);
-      row = row.0;
-    })
+    let row : Defines x y key prop result × (y ≡ record x { elements = y.elements; slots = y.slots }) = subst (λ (u : Cell). Defines u y key prop result × (y ≡ record u { elements = y.elements; slots = y.slots })) s c.row in (
+      y,
+      record {
+        rewritten = rewrites h k n x y e c.now (ap (λ (u : Cell). u.owner) row.1) (ap (λ (u : Cell). u.form) row.1) (ap (λ (u : Cell). u.place) row.1);
+        row = row.0;
+      },
+    )
 
 -- what a row does, by what the table gives of it
 cell_goes : (b : ℕ → Builtin) (z : Zone) (i n p : ℕ) (h k : Store) (x y : Cell) (key : List ℕ) (prop : Prop) (result : Result (Unit {0}) HeapFault) → Sound h → IsProper h i n p x → Defined h k n x y key prop result → OnErr result (k ≡ h) → DefineRow b z i n h k key prop result
@@ -188,12 +190,14 @@ bound : (h k : Store) (n : ℕ) (x : Cell) (name : List ℕ) (value : Slot) → 
 bound h k n x name value c e =
     let s : c.before ≡ x = same_Some c.before x (sym c.was ∙ e) in
     let y : Cell = c.after in
-    let row : Binds x y name value × (y ≡ record x { bindings = y.bindings }) = subst (λ (u : Cell). Binds u y name value × (y ≡ record u { bindings = y.bindings })) s c.row in
-    (y, record {
-      rewritten = rewrites h k n x y e c.now (ap (λ (u : Cell). u.owner) row.1) (ap (λ (u : Cell). u.form) row.1) (ap (λ (u : Cell). u.place) row.1);
-      outer = ap (λ (u : Cell). u.outer) row.1;
-      row = row.0;
-    })
+    let row : Binds x y name value × (y ≡ record x { bindings = y.bindings }) = subst (λ (u : Cell). Binds u y name value × (y ≡ record u { bindings = y.bindings })) s c.row in (
+      y,
+      record {
+        rewritten = rewrites h k n x y e c.now (ap (λ (u : Cell). u.owner) row.1) (ap (λ (u : Cell). u.form) row.1) (ap (λ (u : Cell). u.place) row.1);
+        outer = ap (λ (u : Cell). u.outer) row.1;
+        row = row.0;
+      },
+    )
 
 scope_now : (b : ℕ → Builtin) (z : Zone) (i n : ℕ) (h k : Store) (x y : Cell) (name : List ℕ) (value : Slot) → Sound h → IsScope h i n x → Bound h k n x y name value → part b z i k ≡ with_name (part b z i h) (names.scope_at (seats h) n) name (value_of (names_of b h) value)
 scope_now b z i n h k x y name value s c d =
@@ -215,11 +219,13 @@ removed : (h k : Store) (n : ℕ) (x : Cell) (key : List ℕ) (result : Bool) �
 removed h k n x key result c e =
     let s : c.before ≡ x = same_Some c.before x (sym c.was ∙ e) in
     let y : Cell = c.after in
-    let row : Removes x y key result × (y ≡ record x { slots = y.slots }) = subst (λ (u : Cell). Removes u y key result × (y ≡ record u { slots = y.slots })) s c.row in
-    (y, record {
-      rewritten = rewrites h k n x y e c.now (ap (λ (u : Cell). u.owner) row.1) (ap (λ (u : Cell). u.form) row.1) (ap (λ (u : Cell). u.place) row.1);
-      row = row.0;
-    })
+    let row : Removes x y key result × (y ≡ record x { slots = y.slots }) = subst (λ (u : Cell). Removes u y key result × (y ≡ record u { slots = y.slots })) s c.row in (
+      y,
+      record {
+        rewritten = rewrites h k n x y e c.now (ap (λ (u : Cell). u.owner) row.1) (ap (λ (u : Cell). u.form) row.1) (ap (λ (u : Cell). u.place) row.1);
+        row = row.0;
+      },
+    )
 
 -- a cell that is written as it was leaves the heap as it was
 same_heap : (h k : Store) (n : ℕ) (x y : Cell) → Rewrites h k n x y → y ≡ x → k ≡ h

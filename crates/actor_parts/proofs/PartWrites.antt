@@ -204,7 +204,7 @@ written_scope b z h k n i x y s r o d =
     let names : Names = names_of b h in
     let pl : map (cell_placed names k.cells) (places k i) ≡ map (cell_placed names h.cells) (places h i) = places_still names h k n i x y s r (not_role x i Scoped Proper d (λ w. absurd (cc))) in
     let sc : filter_map (scope_here names i) k.cells ≡ slice_set (filter_map (scope_here names i) h.cells) (rank Scoped i n (seats h)) (scope_in names y) =
-        rw (cells_now h k n x y r) (row_written (form_scope names) Scoped i h.cells n x y (scope_in names x) (scope_in names y) (scope_tells names) r.was o r.owner (gives_scope names x x.form d) (gives_scope names y y.form (rw r.form d))) in
+    rw (cells_now h k n x y r) (row_written (form_scope names) Scoped i h.cells n x y (scope_in names x) (scope_in names y) (scope_tells names) r.was o r.owner (gives_scope names x x.form d) (gives_scope names y y.form (rw r.form d))) in
     let th : filter_map (thing_here names i) k.cells ≡ filter_map (thing_here names i) h.cells = things_still names h k n i x y r (not_role x i Scoped Met d (λ w. absurd (cc))) in
     let ob : filter_map (object_here names (seats h) i) k.cells ≡ filter_map (object_here names (seats h) i) h.cells = objects_still names (seats h) h k n i x y r (not_role x i Scoped Linked d (λ w. absurd (cc))) in
     let ro : k.limit - owned i k.cells ≡ h.limit - owned i h.cells = same_room h k n i x y r in
@@ -220,7 +220,7 @@ written_thing b z h k n i x y t s r o e =
     let pl : map (cell_placed names k.cells) (places k i) ≡ map (cell_placed names h.cells) (places h i) = places_still names h k n i x y s r (not_role x i Met Proper d (λ w. absurd (cc))) in
     let sc : filter_map (scope_here names i) k.cells ≡ filter_map (scope_here names i) h.cells = scopes_still names h k n i x y r (not_role x i Met Scoped d (λ w. absurd (cc))) in
     let th : filter_map (thing_here names i) k.cells ≡ slice_set (filter_map (thing_here names i) h.cells) (rank Met i n (seats h)) now =
-        rw (cells_now h k n x y r) (row_written (form_thing names) Met i h.cells n x y was now (thing_tells names) r.was o r.owner (rw e refl) (rw (r.form, e) refl)) in
+    rw (cells_now h k n x y r) (row_written (form_thing names) Met i h.cells n x y was now (thing_tells names) r.was o r.owner (rw e refl) (rw (r.form, e) refl)) in
     let ob : filter_map (object_here names (seats h) i) k.cells ≡ filter_map (object_here names (seats h) i) h.cells = objects_still names (seats h) h k n i x y r (not_role x i Met Linked d (λ w. absurd (cc))) in
     let ro : k.limit - owned i k.cells ≡ h.limit - owned i h.cells = same_room h k n i x y r in
     named_before b z i h k n x y r ∙ cc (pl, sc, th, ob, ro)
@@ -236,6 +236,6 @@ written_object b z h k n i x y a c l s r o e =
     let sc : filter_map (scope_here names i) k.cells ≡ filter_map (scope_here names i) h.cells = scopes_still names h k n i x y r (not_role x i Linked Scoped d (λ w. absurd (cc))) in
     let th : filter_map (thing_here names i) k.cells ≡ filter_map (thing_here names i) h.cells = things_still names h k n i x y r (not_role x i Linked Met d (λ w. absurd (cc))) in
     let ob : filter_map (object_here names (seats h) i) k.cells ≡ slice_set (filter_map (object_here names (seats h) i) h.cells) (rank Linked i n (seats h)) now =
-        rw (cells_now h k n x y r) (row_written (form_object names (seats h)) Linked i h.cells n x y was now (object_tells names (seats h)) r.was o r.owner (rw e refl) (rw (r.form, e) refl)) in
+    rw (cells_now h k n x y r) (row_written (form_object names (seats h)) Linked i h.cells n x y was now (object_tells names (seats h)) r.was o r.owner (rw e refl) (rw (r.form, e) refl)) in
     let ro : k.limit - owned i k.cells ≡ h.limit - owned i h.cells = same_room h k n i x y r in
     named_before b z i h k n x y r ∙ cc (pl, sc, th, ob, ro)

@@ -106,11 +106,11 @@ row_kept give i cells n x y e q = kept_same (row_at give i) cells n x y e q
 pub row_still : {B : Type 0} (give : Cell → Form → Option B) (r : Role) (i : ℕ) (cells : List Cell) (n : ℕ) (x y : Cell) → Tells give r → slice_get cells n ≡ Some x → y.owner ≡ x.owner → y.form ≡ x.form → (x.owner.0 ≡ i → role_of x.form ≢ r) → filter_map (row_at give i) (slice_set cells n y) ≡ filter_map (row_at give i) cells
 row_still give r i cells n x y t e o q d =
     let a : row_at give i x ≡ None = elim (x.owner.0 == i) as (λ b. (x.owner.0 == i) ≡ b → row_at give i x ≡ None) [
-        true ↦ λ w. row_apart give r i x t (d (eqb-true x.owner.0 i w))
+      | true ↦ λ w. row_apart give r i x t (d (eqb-true x.owner.0 i w))
       | false ↦ λ w. rw w refl
     ] refl in
     let c : row_at give i y ≡ None = elim (x.owner.0 == i) as (λ b. (x.owner.0 == i) ≡ b → row_at give i y ≡ None) [
-        true ↦ λ w. row_apart give r i y t (λ v. d (eqb-true x.owner.0 i w) (rw q at v))
+      | true ↦ λ w. row_apart give r i y t (λ v. d (eqb-true x.owner.0 i w) (rw q at v))
       | false ↦ λ w. rw (o, w) refl
     ] refl in
     row_kept give i cells n x y e (c ∙ sym a)

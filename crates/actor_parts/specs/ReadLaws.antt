@@ -25,9 +25,11 @@ pub record ReadsCells (b : ℕ → Builtin) (z : Zone) (i : ℕ) (h : Store) : T
   pub name : (n p : ℕ) (x : Cell) → IsProper h i n p x → reference_at (seats h) n ≡ m.Own p
   pub place : (n p : ℕ) (x : Cell) → IsProper h i n p x → names.place_at (seats h) n ≡ p
   pub cell : (n p : ℕ) (x : Cell) → IsProper h i n p x → cell_at (part b z i h) p ≡ Some (holder_of (names_of b h) x)
-  pub own : (n p : ℕ) (x : Cell) (key : List ℕ) → IsProper h i n p x → own_property (part b z i h) (reference_at (seats h) n) key ≡ own_of (holder_of (names_of b h) x) key
+  pub own : (n p : ℕ) (x : Cell) (key : List ℕ) → IsProper h i n p x →
+      own_property (part b z i h) (reference_at (seats h) n) key ≡ own_of (holder_of (names_of b h) x) key
   pub prototype : (n p : ℕ) (x : Cell) → IsProper h i n p x → prototype_of (part b z i h) (reference_at (seats h) n) ≡ reference_of (names_of b h) x.proto
-  pub called : (n p : ℕ) (x : Cell) → IsProper h i n p x → form_of (part b z i h) (Refers (reference_at (seats h) n)) ≡ Some (naming.form_of (names_of b h) x.owner x.elements x.form)
+  pub called : (n p : ℕ) (x : Cell) → IsProper h i n p x →
+      form_of (part b z i h) (Refers (reference_at (seats h) n)) ≡ Some (naming.form_of (names_of b h) x.owner x.elements x.form)
 
 -- a scope
 pub record ReadsScopes (b : ℕ → Builtin) (z : Zone) (i : ℕ) (h : Store) : Type 0 where
@@ -36,14 +38,19 @@ pub record ReadsScopes (b : ℕ → Builtin) (z : Zone) (i : ℕ) (h : Store) : 
 -- a thing that was met
 pub record ReadsThings (b : ℕ → Builtin) (z : Zone) (i : ℕ) (h : Store) : Type 0 where
   pub name : (n : ℕ) (t : Thing) (x : Cell) → IsThing h i n t x → reference_at (seats h) n ≡ m.Thing (rank Met i n (seats h))
-  pub thing : (n : ℕ) (t : Thing) (x : Cell) → IsThing h i n t x → thing_at (part b z i h) (rank Met i n (seats h)) ≡ Some (record { kind = t.kind; slots = slots_of (names_of b h) x.slots })
-  pub own : (n : ℕ) (t : Thing) (x : Cell) (key : List ℕ) → IsThing h i n t x → own_property (part b z i h) (reference_at (seats h) n) key ≡ property_in (slots_of (names_of b h) x.slots) key
+  pub thing : (n : ℕ) (t : Thing) (x : Cell) → IsThing h i n t x →
+      thing_at (part b z i h) (rank Met i n (seats h)) ≡ Some (record { kind = t.kind; slots = slots_of (names_of b h) x.slots })
+  pub own : (n : ℕ) (t : Thing) (x : Cell) (key : List ℕ) → IsThing h i n t x →
+      own_property (part b z i h) (reference_at (seats h) n) key ≡ property_in (slots_of (names_of b h) x.slots) key
 
 -- an object of another that was met; on a waived one the actor has no properties of its own
 pub record ReadsObjects (b : ℕ → Builtin) (z : Zone) (i : ℕ) (h : Store) : Type 0 where
   pub name : (n : ℕ) (a : Actor) (c : CellId) (l : Look) (x : Cell) → IsLink h i n a c l x → reference_at (seats h) n ≡ link_named l (rank Linked i n (seats h))
-  pub object : (n : ℕ) (a : Actor) (c : CellId) (l : Look) (x : Cell) → IsLink h i n a c l x → object_at (part b z i h) (rank Linked i n (seats h)) ≡ Some (record { owner = a; shape = shape_at (seats h) c.0; look = l; slots = slots_of (names_of b h) x.slots })
-  pub own : (n : ℕ) (a : Actor) (c : CellId) (l : Look) (x : Cell) (key : List ℕ) → IsLink h i n a c l x → (l ≡ Waived → ⊥) → own_property (part b z i h) (reference_at (seats h) n) key ≡ property_in (slots_of (names_of b h) x.slots) key
+  pub object : (n : ℕ) (a : Actor) (c : CellId) (l : Look) (x : Cell) → IsLink h i n a c l x →
+      object_at (part b z i h) (rank Linked i n (seats h)) ≡
+      Some (record { owner = a; shape = shape_at (seats h) c.0; look = l; slots = slots_of (names_of b h) x.slots })
+  pub own : (n : ℕ) (a : Actor) (c : CellId) (l : Look) (x : Cell) (key : List ℕ) → IsLink h i n a c l x → (l ≡ Waived → ⊥) →
+      own_property (part b z i h) (reference_at (seats h) n) key ≡ property_in (slots_of (names_of b h) x.slots) key
 
 pub record Reads : Type 0 where
   pub cells : (b : ℕ → Builtin) (z : Zone) (i : ℕ) (h : Store) → Sound h → ReadsCells b z i h

@@ -37,8 +37,12 @@ use Rattle.actor_parts.specs.Changes.{Rewrites}
 pub record Writes (b : ℕ → Builtin) (z : Zone) (i n : ℕ) (h k : Store) (x y : Cell) : Type 0 where
   pub cell : (p : ℕ) → IsProper h i n p x → part b z i k ≡ with_cell (part b z i h) p (holder_of (names_of b h) y)
   pub scope : IsScope h i n x → part b z i k ≡ with_scope (part b z i h) (scope_at (seats h) n) (scope_in (names_of b h) y)
-  pub thing : (t : Thing) → IsThing h i n t x → part b z i k ≡ with_thing (part b z i h) (rank Met i n (seats h)) (record { kind = t.kind; slots = slots_of (names_of b h) y.slots })
-  pub object : (a : Actor) (c : CellId) (l : Look) → IsLink h i n a c l x → part b z i k ≡ with_object (part b z i h) (rank Linked i n (seats h)) (record { owner = a; shape = shape_at (seats h) c.0; look = l; slots = slots_of (names_of b h) y.slots })
+  pub thing : (t : Thing) → IsThing h i n t x →
+      part b z i k ≡ with_thing (part b z i h) (rank Met i n (seats h)) (record { kind = t.kind; slots = slots_of (names_of b h) y.slots })
+  pub object : (a : Actor) (c : CellId) (l : Look) → IsLink h i n a c l x →
+      part b z i k ≡
+      with_object (part b z i h) (rank Linked i n (seats h))
+      (record { owner = a; shape = shape_at (seats h) c.0; look = l; slots = slots_of (names_of b h) y.slots })
   pub others : (j : ℕ) → j ≢ x.owner.0 → part b z j k ≡ part b z j h
   pub names : seats k ≡ seats h
 
@@ -59,7 +63,8 @@ pub record IsDefined (h k : Store) (n : ℕ) (key : List ℕ) (prop : Prop) (res
   pub refused : OnErr result (k ≡ h)
 
 abbrev pub DefineRow : (ℕ → Builtin) → Zone → ℕ → ℕ → Store → Store → List ℕ → Prop → Result (Unit {0}) HeapFault → Type 0
-DefineRow b z i n h k key prop result = GoesOn result (define_row (reference_at (seats h) n) key (property_of (names_of b h) prop)) (part b z i h) (part b z i k)
+DefineRow b z i n h k key prop result = GoesOn result (define_row (reference_at (seats h) n) key (property_of (names_of b h) prop)) (part b z i h)
+    (part b z i k)
 
 -- the row of a property that is defined, of a proper cell, a thing, and an object that is seen through an Xray
 pub record DefinesRow (b : ℕ → Builtin) (z : Zone) (i n : ℕ) (h k : Store) (key : List ℕ) (prop : Prop) (result : Result (Unit {0}) HeapFault) : Type 0 where
@@ -80,7 +85,8 @@ abbrev pub IsRemoved : Store → Store → ℕ → List ℕ → Bool → Type 0
 IsRemoved h k n key result = Changed h k n (λ x y. Removes x y key result × (y ≡ record x { slots = y.slots }))
 
 abbrev pub RemovesFrom : (ℕ → Builtin) → Zone → ℕ → ℕ → Store → Store → List ℕ → Cell → Type 0
-RemovesFrom b z i n h k key x = RemoveRow (removed_of (holder_of (names_of b h) x) key) (delete_row (Refers (reference_at (seats h) n)) key) (part b z i h) (part b z i k)
+RemovesFrom b z i n h k key x = RemoveRow (removed_of (holder_of (names_of b h) x) key) (delete_row (Refers (reference_at (seats h) n)) key) (part b
+    z i h) (part b z i k)
 
 -- the row of a property that is removed
 pub record RemovesRow (b : ℕ → Builtin) (z : Zone) (i n : ℕ) (h k : Store) (key : List ℕ) : Type 0 where
@@ -93,7 +99,8 @@ pub record RemovesRow (b : ℕ → Builtin) (z : Zone) (i n : ℕ) (h k : Store)
 
 -- a prototype is set in a proper cell alone, since what a thing and another's object have above them is told by tables
 pub record SetsPrototype (b : ℕ → Builtin) (z : Zone) (i n : ℕ) (h k : Store) (q : Option CellId) : Type 0 where
-  pub cell : (p : ℕ) (x : Cell) → IsProper h i n p x → part b z i k ≡ with_cell (part b z i h) p (record (holder_of (names_of b h) x) { prototype = reference_of (names_of b h) q })
+  pub cell : (p : ℕ) (x : Cell) → IsProper h i n p x →
+      part b z i k ≡ with_cell (part b z i h) p (record (holder_of (names_of b h) x) { prototype = reference_of (names_of b h) q })
   pub thing : (t : Thing) (x : Cell) → IsThing h i n t x → part b z i k ≡ part b z i h
   pub object : (a : Actor) (c : CellId) (l : Look) (x : Cell) → IsLink h i n a c l x → part b z i k ≡ part b z i h
   pub others : (j : ℕ) (x : Cell) → IsOf h i n x → j ≢ i → part b z j k ≡ part b z j h
@@ -107,7 +114,11 @@ pub record BindsName (b : ℕ → Builtin) (z : Zone) (i n : ℕ) (h k : Store) 
 
 pub record WriteLaws : Type 0 where
   pub writes : (b : ℕ → Builtin) (z : Zone) (i n : ℕ) (h k : Store) (x y : Cell) → Sound h → Rewrites h k n x y → Writes b z i n h k x y
-  pub defines : (b : ℕ → Builtin) (z : Zone) (i n : ℕ) (h k : Store) (key : List ℕ) (prop : Prop) (result : Result (Unit {0}) HeapFault) → Sound h → IsDefined h k n key prop result → DefinesRow b z i n h k key prop result
-  pub removes : (b : ℕ → Builtin) (z : Zone) (i n : ℕ) (h k : Store) (key : List ℕ) (result : Bool) → Sound h → IsRemoved h k n key result → RemovesRow b z i n h k key
-  pub protos : (b : ℕ → Builtin) (z : Zone) (i n : ℕ) (h k : Store) (q : Option CellId) → Sound h → Changed h k n (λ x y. y ≡ record x { proto = q }) → SetsPrototype b z i n h k q
-  pub binds : (b : ℕ → Builtin) (z : Zone) (i n : ℕ) (h k : Store) (name : List ℕ) (value : Slot) → Sound h → Changed h k n (λ x y. Binds x y name value × (y ≡ record x { bindings = y.bindings })) → BindsName b z i n h k name value
+  pub defines : (b : ℕ → Builtin) (z : Zone) (i n : ℕ) (h k : Store) (key : List ℕ) (prop : Prop) (result : Result (Unit {0}) HeapFault) → Sound h →
+      IsDefined h k n key prop result → DefinesRow b z i n h k key prop result
+  pub removes : (b : ℕ → Builtin) (z : Zone) (i n : ℕ) (h k : Store) (key : List ℕ) (result : Bool) → Sound h → IsRemoved h k n key result →
+      RemovesRow b z i n h k key
+  pub protos : (b : ℕ → Builtin) (z : Zone) (i n : ℕ) (h k : Store) (q : Option CellId) → Sound h → Changed h k n (λ x y. y ≡ record x { proto = q }) →
+      SetsPrototype b z i n h k q
+  pub binds : (b : ℕ → Builtin) (z : Zone) (i n : ℕ) (h k : Store) (name : List ℕ) (value : Slot) → Sound h →
+      Changed h k n (λ x y. Binds x y name value × (y ≡ record x { bindings = y.bindings })) → BindsName b z i n h k name value
