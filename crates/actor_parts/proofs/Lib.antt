@@ -4,3 +4,4 @@ mod Rows
 mod PartWrites
 mod PartReads
 mod PartCalls
+mod PartAdds

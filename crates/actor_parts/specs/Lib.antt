@@ -5,3 +5,4 @@ pub mod Discipline
 pub mod Changes
 pub mod ReadLaws
 pub mod WriteLaws
+pub mod AddLaws

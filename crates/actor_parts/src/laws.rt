@@ -1,5 +1,6 @@
 //! Laws of the part of one actor, as the contracts of functions that do nothing.
 
+ghost use Rattle.actor_parts.specs.AddLaws.{AddLaws};
 ghost use Rattle.actor_parts.specs.ReadLaws.{Reads};
 ghost use Rattle.actor_parts.specs.WriteLaws.{WriteLaws};
 
@@ -12,4 +13,9 @@ pub fn parts_are_read()
 /// of the language write it, and no other actor's machine changes.
 pub fn parts_are_written()
     ensures { WriteLaws }
+{}
+
+/// Where a cell is added to a disciplined heap, each cell that was there is in its owner's machine what it was.
+pub fn added_cells_leave_names()
+    ensures { AddLaws }
 {}

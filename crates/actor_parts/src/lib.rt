@@ -4,4 +4,4 @@
 
 mod laws;
 
-pub use laws::{parts_are_read, parts_are_written};
+pub use laws::{added_cells_leave_names, parts_are_read, parts_are_written};
