@@ -1,5 +1,5 @@
 -- What stands where in a list of which an item is written or added, and in what is kept of it.
-use Rattle.std.proofs.Common.{◌≡◌, ◌≢◌, ℕ, zero, suc, ◌+◌, ◌<◌, List, [], ◌∷◌, ◌++◌, refl, sym, ap, ◌∙◌, length, map, arith, Option, Some, None, ◌⊎◌, inl, inr}
+use Rattle.std.proofs.Common.{◌≡◌, ◌≢◌, ℕ, zero, suc, List, [], ◌∷◌, ◌++◌, refl, sym, ap, ◌∙◌, length, map, arith, Option, Some, None}
 use Rattle.std.specs.Prelude.{slice_get, slice_set, filter_map, filter, take, is_some, Bool, true, false}
 use Rattle.std.proofs.lemmas.Option.{same_Some}
 

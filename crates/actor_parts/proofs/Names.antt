@@ -1,6 +1,5 @@
 -- What a cell mentions under two rules, and that two namings which agree on it make the same of it.
-use Rattle.std.proofs.Common.{◌≡◌, ℕ, List, refl, ap, length, map, Option, Some, None}
-use Rattle.std.specs.Prelude.{slice_get}
+use Rattle.std.proofs.Common.{◌≡◌, ℕ, List, refl, ap, Option, Some, None}
 use Rattle.door.specs.declared.values.Actor.{Actor}
 use Rattle.js_semantics.specs.Builtin.{Builtin}
 use Rattle.js_semantics.specs.Machine as m
@@ -12,12 +11,10 @@ use Rattle.js_objects.specs.declared.values.Prop.{Prop}
 use Rattle.js_objects.specs.declared.values.Prop.TheVariants.{Slot as SlotProp, Accessor as AccessorProp}
 use Rattle.js_objects.specs.declared.values.Form.{Form}
 use Rattle.js_objects.specs.declared.values.Form.TheVariants as f
-use Rattle.js_objects.specs.declared.slots.KeyedProp.{KeyedProp}
-use Rattle.js_objects.specs.declared.bindings.Binding.{Binding}
 use Rattle.js_objects.specs.declared.cell.Cell.{Cell}
-use Rattle.js_objects.specs.Naming.{Names, value_of, values_of, reference_of, place_of, scope_of, property_of, slot_of, slots_of, binding_of, bindings_of, form_of, holder_of, cell_of, scope_in}
+use Rattle.js_objects.specs.Naming.{Names, value_of, values_of, reference_of, place_of, scope_of, property_of, slot_of, slots_of, binding_of, bindings_of, form_of, holder_of, scope_in}
 use Rattle.actor_parts.specs.Seats.{Proper, role_of}
-use Rattle.actor_parts.specs.Mentions.{Rule, Each, IfCell, SlotMeets, PropMeets, FormMeets, Meets, Same, Implies}
+use Rattle.actor_parts.specs.Mentions.{Rule, IfCell, SlotMeets, PropMeets, FormMeets, Meets, Same, Implies}
 use Rattle.actor_parts.proofs.Lists.{map_agree}
 
 -- ---- a rule that follows from another

@@ -1,13 +1,11 @@
 -- A cell is added: the names of the cells that were there stay.
-use Rattle.std.proofs.Common.{◌≡◌, ◌≢◌, ℕ, List, [], ◌∷◌, ◌++◌, refl, sym, ap, ◌∙◌, map, Option, Some, None}
+use Rattle.std.proofs.Common.{◌≡◌, ℕ, List, [], ◌∷◌, ◌++◌, refl, Option, Some, None}
 use Rattle.std.specs.Prelude.{slice_get}
 use Rattle.std.proofs.lemmas.List.{map_push}
-use Rattle.door.specs.declared.values.Actor.{Actor}
 use Rattle.js_semantics.specs.Builtin.{Builtin}
 use Rattle.js_objects.specs.declared.cell.Cell.{Cell}
-use Rattle.js_objects.specs.Naming.{Names, slots_of, holder_of, scope_in}
 use Rattle.js_objects.specs.Heaps.{Store}
-use Rattle.actor_parts.specs.Seats.{Proper, role_of, Seat, seat_of, seats, reference_at, place_at, scope_at, shape_at, names_by, names_of}
+use Rattle.actor_parts.specs.Seats.{Seat, seat_of, seats, reference_at, place_at, scope_at, names_by, names_of}
 use Rattle.actor_parts.specs.Mentions.{Meets, Same, Implies}
 use Rattle.actor_parts.specs.Discipline.{IsObject, IsPlaced, IsScope, ObjectAt, PlacedAt, ScopeAt, own_alone, IsWithin, Disciplined}
 use Rattle.actor_parts.specs.Changes.{Adds}

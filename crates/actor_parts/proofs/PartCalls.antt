@@ -1,6 +1,6 @@
 -- The calls that write a cell, as the rows of the language say it.
-use Rattle.std.proofs.Common.{◌≡◌, ◌≢◌, ℕ, List, [], ◌∷◌, refl, sym, ap, subst, ◌∙◌, Option, Some, None}
-use Rattle.std.specs.Prelude.{slice_get, slice_set, Bool, OnErr, map}
+use Rattle.std.proofs.Common.{◌≡◌, ◌≢◌, ℕ, List, [], refl, sym, ap, subst, ◌∙◌, Option, Some}
+use Rattle.std.specs.Prelude.{slice_get, slice_set, Bool, OnErr}
 use Rattle.std.proofs.lemmas.Option.{same_Some}
 use Rattle.std.specs.declared.result.Result.{Result}
 use Rattle.std.specs.declared.result.Result.TheVariants.{Ok, Err}
@@ -16,28 +16,26 @@ use Rattle.door.specs.declared.requests.ErrorKind.TheVariants as kind
 use Rattle.js_semantics.specs.Builtin.{Builtin}
 use Rattle.js_semantics.specs.Machine as m
 use Rattle.js_semantics.specs.Machine.{Machine, MetObject, cell_at, thing_at, object_at, scope_at, Refers, with_cell, with_scope, with_thing, with_object}
-use Rattle.js_semantics.specs.Evaluator.{Ends, Rest, Cont, fails_by}
-use Rattle.js_semantics.specs.Faults.{refusal_fault}
+use Rattle.js_semantics.specs.Evaluator.{Rest, Cont}
 use Rattle.js_semantics.specs.Properties.{defined_of, removed_of, defined_in, removed_in}
-use Rattle.js_semantics.specs.Members.{define_row, delete_row, define_in_object, delete_in_object, changed_row}
-use Rattle.js_semantics.specs.Xrays.{Use, with_expandos, use_by_xray}
+use Rattle.js_semantics.specs.Members.{delete_row}
+use Rattle.js_semantics.specs.Xrays.{with_expandos, use_by_xray}
 use Rattle.js_semantics.specs.Names.{with_name}
 use Rattle.js_objects.specs.declared.values.CellId.{CellId}
 use Rattle.js_objects.specs.declared.values.Slot.{Slot}
 use Rattle.js_objects.specs.declared.values.Prop.{Prop}
-use Rattle.js_objects.specs.declared.values.Form.{Form}
 use Rattle.js_objects.specs.declared.values.Form.TheVariants as f
 use Rattle.js_objects.specs.declared.values.HeapFault.{HeapFault}
 use Rattle.js_objects.specs.declared.values.HeapFault.TheVariants as fault
 use Rattle.js_objects.specs.declared.cell.Cell.{Cell}
-use Rattle.js_objects.specs.Naming.{Names, value_of, property_of, slots_of, reference_of, holder_of, scope_in}
+use Rattle.js_objects.specs.Naming.{Names, value_of, property_of, slots_of, holder_of}
 use Rattle.js_objects.specs.Heaps.{Store, Sound, Changed}
-use Rattle.js_objects.specs.Defines.{Binds, Defines, Removes, RemovesAs, Conforms}
+use Rattle.js_objects.specs.Defines.{Binds, Defines, Removes, RemovesAs}
 use Rattle.actor_parts.specs.Seats.{Role, Proper, Scoped, Met, Linked, role_of, rank, seats, reference_at, shape_at, names_of}
 use Rattle.actor_parts.specs.Seats as names
 use Rattle.actor_parts.specs.Parts.{IsOf, IsProper, IsScope, IsThing, IsLink, part}
 use Rattle.actor_parts.specs.Changes.{Rewrites}
-use Rattle.actor_parts.specs.WriteLaws.{Writes, GoesOn, IsDefined, DefineRow, DefinesRow, RemoveRow, IsRemoved, RemovesFrom, RemovesRow, SetsPrototype, BindsName}
+use Rattle.actor_parts.specs.WriteLaws.{Writes, IsDefined, DefineRow, DefinesRow, RemoveRow, IsRemoved, RemovesRow, SetsPrototype, BindsName}
 use Rattle.actor_parts.proofs.Lists.{set_got}
 use Rattle.actor_parts.proofs.PartWrites.{same_seats, written_others, written_cell, written_scope, written_thing, written_object}
 use Rattle.actor_parts.proofs.PartReads.{cell_named, scope_named, thing_named, object_named, cell_here, scope_read, thing_read, object_read}

@@ -1,6 +1,6 @@
 -- What is read of the part of an actor.
-use Rattle.std.proofs.Common.{◌≡◌, ◌≢◌, ◌-◌, ℕ, List, refl, sym, ap, ◌∙◌, map, Option, Some, None}
-use Rattle.std.specs.Prelude.{slice_get, filter_map}
+use Rattle.std.proofs.Common.{◌≡◌, ◌-◌, ℕ, List, refl, Option, Some}
+use Rattle.std.specs.Prelude.{slice_get}
 use Rattle.std.proofs.lemmas.Option.{slice_get-map}
 use Rattle.door.specs.declared.values.Actor.{Actor}
 use Rattle.door.specs.declared.values.Look.{Look}
@@ -10,19 +10,17 @@ use Rattle.door.specs.declared.zones.Zone.{Zone}
 use Rattle.js_semantics.specs.Builtin.{Builtin}
 use Rattle.js_semantics.specs.Machine as m
 use Rattle.js_semantics.specs.Machine.{Machine, MetThing, MetObject, cell_at, thing_at, object_at, scope_at, Refers}
-use Rattle.js_semantics.specs.Properties.{own_of, property_in}
-use Rattle.js_semantics.specs.Members.{own_property, prototype_of}
-use Rattle.js_semantics.specs.Calls.{form_of}
+use Rattle.js_semantics.specs.Properties.{property_in}
+use Rattle.js_semantics.specs.Members.{own_property}
 use Rattle.js_objects.specs.declared.values.CellId.{CellId}
 use Rattle.js_objects.specs.declared.values.Form.{Form}
 use Rattle.js_objects.specs.declared.values.Form.TheVariants as f
 use Rattle.js_objects.specs.declared.cell.Cell.{Cell}
-use Rattle.js_objects.specs.Naming as naming
-use Rattle.js_objects.specs.Naming.{Names, slots_of, reference_of, holder_of, scope_in}
+use Rattle.js_objects.specs.Naming.{Names, slots_of, holder_of, scope_in}
 use Rattle.js_objects.specs.Heaps.{Store, Sound, owned, places, id}
 use Rattle.actor_parts.specs.Seats.{Role, Proper, Scoped, Met, Linked, role_of, Seat, seat_of, seats, rank, reference_at, form_named, link_named, shape_at, names_by, names_of}
 use Rattle.actor_parts.specs.Seats as names
-use Rattle.actor_parts.specs.Parts.{IsOf, IsProper, IsScope, IsThing, IsLink, number_placed, cell_placed, form_scope, form_thing, form_object, scope_here, thing_here, object_here, part}
+use Rattle.actor_parts.specs.Parts.{IsOf, IsProper, IsScope, IsThing, IsLink, number_placed, cell_placed, form_scope, form_thing, form_object, part}
 use Rattle.actor_parts.specs.ReadLaws.{ReadsCells, ReadsScopes, ReadsThings, ReadsObjects}
 use Rattle.actor_parts.proofs.Rows.{row_read, scope_tells, thing_tells, object_tells}
 use Rattle.actor_parts.proofs.PartWrites.{proper_placed, seated_here}

@@ -1,22 +1,21 @@
 -- A cell is written: what the part of its owner becomes, and that the part of every other actor stays.
-use Rattle.std.proofs.Common.{◌≡◌, ◌≢◌, ℕ, zero, suc, ◌-◌, List, [], ◌∷◌, refl, sym, ap, ◌∙◌, length, map, Option, Some, None}
-use Rattle.std.specs.Prelude.{slice_get, slice_set, filter_map, filter, take, ◌==◌, if◌then◌else◌, option_map}
-use Rattle.std.proofs.lemmas.Option.{same_Some, slice_get-map}
+use Rattle.std.proofs.Common.{◌≡◌, ◌≢◌, ℕ, zero, suc, ◌-◌, List, [], ◌∷◌, refl, sym, ap, ◌∙◌, map, Option, Some, None}
+use Rattle.std.specs.Prelude.{slice_get, slice_set, filter_map}
+use Rattle.std.proofs.lemmas.Option.{same_Some}
 use Rattle.door.specs.declared.values.Actor.{Actor}
 use Rattle.door.specs.declared.values.Look.{Look}
 use Rattle.door.specs.declared.values.Thing.{Thing}
 use Rattle.door.specs.declared.zones.Zone.{Zone}
 use Rattle.js_semantics.specs.Builtin.{Builtin}
-use Rattle.js_semantics.specs.Machine as m
-use Rattle.js_semantics.specs.Machine.{Machine, Scope, MetThing, MetObject, with_cell, with_scope, with_thing, with_object}
+use Rattle.js_semantics.specs.Machine.{MetThing, MetObject, with_cell, with_scope, with_thing, with_object}
 use Rattle.js_objects.specs.declared.values.CellId.{CellId}
 use Rattle.js_objects.specs.declared.values.Form.{Form}
 use Rattle.js_objects.specs.declared.values.Form.TheVariants as f
 use Rattle.js_objects.specs.declared.cell.Cell.{Cell}
-use Rattle.js_objects.specs.Naming.{Names, slots_of, holder_of, cell_of, scope_in}
+use Rattle.js_objects.specs.Naming.{Names, slots_of, holder_of, scope_in}
 use Rattle.js_objects.specs.Heaps.{Store, HasPlace, Sound, owned, places, id}
-use Rattle.actor_parts.specs.Seats.{Role, Proper, Scoped, Met, Linked, role_of, Seat, seat_of, seats, is_seat, rank, scope_at, shape_at, names_by, names_of}
-use Rattle.actor_parts.specs.Parts.{IsOf, form_placed, number_placed, cell_placed, form_scope, form_thing, form_object, scope_here, thing_here, object_here, part_by, part}
+use Rattle.actor_parts.specs.Seats.{Role, Proper, Scoped, Met, Linked, role_of, Seat, seat_of, seats, rank, shape_at, names_of}
+use Rattle.actor_parts.specs.Parts.{form_placed, number_placed, cell_placed, form_scope, form_thing, form_object, scope_here, thing_here, object_here, part_by, part}
 use Rattle.actor_parts.specs.Changes.{Rewrites}
 use Rattle.actor_parts.proofs.Lists.{by_number, get_set_same, get_set_other, set_same, map_agree, map_set_at}
 use Rattle.actor_parts.proofs.Rows.{row_still, row_written, scope_tells, thing_tells, object_tells}

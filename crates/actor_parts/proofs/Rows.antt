@@ -1,8 +1,7 @@
 -- The rows of a machine that are kept of the heap's cells, in their order: scopes, met things and met objects.
-use Rattle.std.proofs.Common.{◌≡◌, ◌≢◌, ℕ, List, [], ◌∷◌, ◌++◌, refl, sym, ap, ◌∙◌, length, map, Option, Some, None}
+use Rattle.std.proofs.Common.{◌≡◌, ◌≢◌, ℕ, List, refl, sym, ap, ◌∙◌, length, map, Option, Some, None}
 use Rattle.std.specs.Prelude.{slice_get, slice_set, filter_map, filter, take, is_some, Bool, true, false, ◌==◌, ◌&&◌, if◌then◌else◌}
 use Rattle.std.proofs.lemmas.Bool.{eq-eqb, eqb-true, ne_eqb}
-use Rattle.std.proofs.lemmas.Option.{same_Some}
 use Rattle.js_objects.specs.declared.values.Form.{Form}
 use Rattle.js_objects.specs.declared.values.Form.TheVariants as f
 use Rattle.js_objects.specs.declared.cell.Cell.{Cell}

@@ -1,7 +1,6 @@
 -- The discipline of the heap: each reference in a cell or a scope of an owner names a cell of that owner, and only links and forwards name
 -- another's (MDN, Script security; this project's own).
-use Rattle.std.specs.Prelude.{◌≡◌, ◌≢◌, ◌<◌, ℕ, List, Option, Some, None, slice_get, length}
-use Rattle.door.specs.declared.values.Actor.{Actor}
+use Rattle.std.specs.Prelude.{◌≡◌, ◌≢◌, ℕ, List, Option, Some, None, slice_get}
 use Rattle.js_objects.specs.declared.cell.Cell.{Cell}
 use Rattle.js_objects.specs.Heaps.{Store}
 use Rattle.actor_parts.specs.Seats.{Seat, Scoped, Proper, role_of, seats}

@@ -1,5 +1,5 @@
 -- The part of one actor: the machine that its cells are (ECMAScript, 6.1.7 and 9.1.1.1; MDN, Xray vision).
-use Rattle.std.specs.Prelude.{◌≡◌, ℕ, ◌==◌, ◌-◌, List, Option, Some, None, slice_get, map, filter_map, option_map, if◌then◌else◌}
+use Rattle.std.specs.Prelude.{◌≡◌, ℕ, ◌==◌, ◌-◌, List, Option, Some, None, slice_get, map, filter_map, if◌then◌else◌}
 use Rattle.door.specs.declared.values.Actor.{Actor}
 use Rattle.door.specs.declared.values.Look.{Look}
 use Rattle.door.specs.declared.values.Thing.{Thing}
@@ -11,7 +11,7 @@ use Rattle.js_objects.specs.declared.values.CellId.{CellId}
 use Rattle.js_objects.specs.declared.values.Form.{Form}
 use Rattle.js_objects.specs.declared.values.Form.TheVariants as f
 use Rattle.js_objects.specs.declared.cell.Cell.{Cell}
-use Rattle.js_objects.specs.Naming.{Names, slots_of, cell_of, holder_of, scope_in}
+use Rattle.js_objects.specs.Naming.{Names, slots_of, cell_of, scope_in}
 use Rattle.js_objects.specs.Heaps.{Store, owned, places}
 use Rattle.actor_parts.specs.Seats.{Proper, role_of, Seat, seats, shape_at, names_by}
 

@@ -1,6 +1,6 @@
 -- What the calls that write a cell do to the machine of its owner, as the rows of the language say it, and that every other actor's machine
 -- is the same (ECMAScript, 9.1.1.1, 10.1.1, 10.1.6 and 10.1.10).
-use Rattle.std.specs.Prelude.{◌≡◌, ◌≢◌, ℕ, Bool, List, Option, Some, slice_get, OnErr}
+use Rattle.std.specs.Prelude.{◌≡◌, ◌≢◌, ℕ, Bool, List, Option, OnErr}
 use Rattle.std.specs.declared.result.Result.{Result}
 use Rattle.std.specs.declared.result.Result.TheVariants.{Ok, Err}
 use Rattle.door.specs.declared.values.Actor.{Actor}
@@ -12,7 +12,6 @@ use Rattle.door.specs.declared.requests.ErrorKind.{ErrorKind}
 use Rattle.js_semantics.specs.Builtin.{Builtin}
 use Rattle.js_semantics.specs.Machine as m
 use Rattle.js_semantics.specs.Machine.{Machine, Refers, with_cell, with_scope, with_thing, with_object}
-use Rattle.js_semantics.specs.Solo.{Program}
 use Rattle.js_semantics.specs.Faults.{wrong_kind, out_of_range, refusal_fault}
 use Rattle.js_semantics.specs.Evaluator.{Ends, Cont, Meaning, fails_by}
 use Rattle.js_semantics.specs.Properties.{removed_of}
@@ -27,7 +26,7 @@ use Rattle.js_objects.specs.declared.cell.Cell.{Cell}
 use Rattle.js_objects.specs.Naming.{value_of, property_of, slots_of, reference_of, holder_of, scope_in}
 use Rattle.js_objects.specs.Heaps.{Store, Sound, Changed}
 use Rattle.js_objects.specs.Defines.{Binds, Defines, Removes}
-use Rattle.actor_parts.specs.Seats.{Proper, Scoped, Met, Linked, role_of, rank, seats, reference_at, scope_at, shape_at, names_of}
+use Rattle.actor_parts.specs.Seats.{Met, Linked, rank, seats, reference_at, scope_at, shape_at, names_of}
 use Rattle.actor_parts.specs.Parts.{IsOf, IsProper, IsScope, IsThing, IsLink, part}
 use Rattle.actor_parts.specs.Changes.{Rewrites}
 
