@@ -1,0 +1,11 @@
+mod Lists
+mod SlotLists
+mod ElementLists
+mod CellRows
+mod Keys
+mod OwnerRows
+mod Chains
+mod Standards
+mod Within
+mod MachineChains
+mod HeapRows

@@ -1,0 +1,9 @@
+pub mod Naming
+pub mod Elements
+pub mod SlotsModel
+pub mod StandardsModel
+pub mod Within
+pub mod Defines
+pub mod Heaps
+pub mod ChainsModel
+pub mod MachineChains
