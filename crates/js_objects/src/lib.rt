@@ -8,8 +8,6 @@ mod heap;
 mod key;
 mod owner;
 mod slots;
-#[cfg(test)]
-mod tests;
 mod values;
 
 pub use bindings::{Binding, Bindings};
