@@ -16,8 +16,8 @@ mod timers;
 pub use crossings::PATH_LIMIT;
 pub use events::{Event, EventForm, Flag};
 pub use facts::{
-    event_cases_are_computed, replies_are_computed, selector_cases_are_computed, table_is_computed,
-    tree_cases_are_computed, walks_are_computed,
+    each_member_has_a_row, event_cases_are_computed, replies_are_computed,
+    selector_cases_are_computed, table_is_computed, tree_cases_are_computed, walks_are_computed,
 };
 pub use kept::{Kept, Owner, VALUE_LIMIT};
 pub use listeners::{Due, Listener, Registration, Visit};

@@ -5,7 +5,8 @@
 mod facts;
 
 pub use facts::{
-    beginnings_are_computed, builtins_are_computed, entries_are_computed, forms_are_computed,
-    functions_are_computed, looks_are_computed, members_are_computed, operators_are_computed,
-    requests_are_computed, statements_are_computed, stops_are_computed, text_limits_are_computed,
+    beginnings_are_computed, builtins_are_computed, each_member_has_a_row, entries_are_computed,
+    forms_are_computed, functions_are_computed, looks_are_computed, members_are_computed,
+    operators_are_computed, requests_are_computed, statements_are_computed, stops_are_computed,
+    text_limits_are_computed,
 };
