@@ -1,5 +1,5 @@
 pub mod Looks
-pub mod Record
+pub mod JournalView
 pub mod SameMarks
 pub mod SameRequests
 pub mod SameValues

@@ -27,7 +27,7 @@ impl<T: Drop> From<AllocFailed<T>> for JournalFault {
     }
 }
 
-/// The marks of a run in order, and how many there may be. Contracts see it as a `Record`.
+/// The marks of a run in order, and how many there may be. Contracts see it as a `JournalView`.
 #[derive(Debug, Drop)]
 pub struct Journal {
     marks: Vec<Mark>,
@@ -36,9 +36,9 @@ pub struct Journal {
 
 impl Model for Journal {
     ghost use Rattle.std.specs.Prelude.{length, ◌≤◌};
-    ghost use Rattle.door.specs.Record.{Record};
+    ghost use Rattle.door.specs.JournalView.{JournalView};
 
-    ghost Value = { Record };
+    ghost Value = { JournalView };
 
     ghost view = { λ j. record { marks = j.marks.items; limit = j.limit } };
 

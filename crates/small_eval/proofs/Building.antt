@@ -1,7 +1,7 @@
 -- How a world stays sound while the host builds.
 use Rattle.std.proofs.Common.{◌≡◌, ◌≢◌, ◌∙◌, ap, sym, refl, subst, ℕ, ◌<◌, ◌≤◌, ◌+◌, Bool, true, false, List, [], ◌∷◌, ◌++◌, arith, IsTrue, codes, length, length-append, length-set, append_assoc, slice_index_or, Option, Some, None}
 use Rattle.std.proofs.lemmas.List.{append-nil}
-use Rattle.door.specs.Record.{Record}
+use Rattle.door.specs.JournalView.{JournalView}
 use Rattle.door.specs.declared.values.Actor.{Actor}
 use Rattle.door.specs.declared.values.Kind.TheVariants.{Document, Element, Str as StrKind}
 use Rattle.door.specs.declared.values.Thing.{Thing}
@@ -41,9 +41,9 @@ use Rattle.small_eval.proofs.Heads.{alike_created, alike_set, headed_alike, head
 use Rattle.small_eval.proofs.Own.{host_makes, long-appended, own_known, own_late, own-appended, own-attribute}
 
 -- a mark that nobody but the host sees
-pub idle_past : (setups : Setups) (old new : Record) (mark : Mark) → Adds old new (mark ∷ []) → ((i : Actor) → i ≢ the_host → seen_of i (met_of i old.marks) mark ≡ []) → AreIdle setups old.marks → AreIdle setups new.marks
+pub idle_past : (setups : Setups) (old new : JournalView) (mark : Mark) → Adds old new (mark ∷ []) → ((i : Actor) → i ≢ the_host → seen_of i (met_of i old.marks) mark ≡ []) → AreIdle setups old.marks → AreIdle setups new.marks
 idle_past setups old new mark e unseen h i guest =
-    let P : Record → Type 0 = λ r. IsWaiting (setups i) i r.marks in
+    let P : JournalView → Type 0 = λ r. IsWaiting (setups i) i r.marks in
     subst P (sym e) (reached-past (setups i) i old.marks mark beginning (unseen i guest) (h i guest))
 
 are_one : (before : List Mark) (f : Forest) (request : Request) → f ≡ (stage_of before).nodes → AreBuilds before (request ∷ []) (Build (placed_request f request) ∷ [])
@@ -72,13 +72,13 @@ built_then a b d xs ys m n h k = record {
   where
     joined : b.journal ≡ record a.journal { marks = a.journal.marks ++ h.marks.0 } → d.journal ≡ record b.journal { marks = b.journal.marks ++ k.marks.0 } → d.journal ≡ record a.journal { marks = a.journal.marks ++ (h.marks.0 ++ k.marks.0) }
     joined p q =
-        let add : Record → Record = λ r. record r { marks = r.marks ++ k.marks.0 } in
-        let at : List Mark → Record = λ ms. record a.journal { marks = ms } in
+        let add : JournalView → JournalView = λ r. record r { marks = r.marks ++ k.marks.0 } in
+        let at : List Mark → JournalView = λ ms. record a.journal { marks = ms } in
         q ∙ ap add p ∙ ap at (append_assoc a.journal.marks h.marks.0 k.marks.0)
 
     both : b.journal ≡ record a.journal { marks = a.journal.marks ++ h.marks.0 } → AreBuilds a.journal.marks xs h.marks.0 → AreBuilds b.journal.marks ys k.marks.0 → AreBuilds a.journal.marks (xs ++ ys) (h.marks.0 ++ k.marks.0)
     both p q r =
-        let P : Record → Type 0 = λ j. AreBuilds j.marks ys k.marks.0 in
+        let P : JournalView → Type 0 = λ j. AreBuilds j.marks ys k.marks.0 in
         builds-then a.journal.marks xs ys h.marks.0 k.marks.0 q (subst P p r)
 
 rooted_more : (own next more : List ℕ) → IsRooted own → next ≡ own ++ more → IsRooted next
@@ -87,8 +87,8 @@ rooted_more own next more (rest, e) n = (rest ++ more, n ∙ ap (λ xs. xs ++ mo
 -- what fits afterwards
 pub room_after : (old new : World) (requests : List Request) (nodes a b m n : ℕ) → HasRoom a b old → HasBuilt requests nodes old new → length requests + m ≤ a → nodes + n ≤ b → HasRoom m n new
 room_after old new requests nodes a b m n h k less fewer =
-    let long : length new.journal.marks ≡ length old.journal.marks + length k.marks.0 = ap (λ (r : Record). length r.marks) k.marks.1 ∙ length-append old.journal.marks k.marks.0 in
-    let limit : new.journal.limit ≡ old.journal.limit = ap (λ (r : Record). r.limit) k.marks.1 in
+    let long : length new.journal.marks ≡ length old.journal.marks + length k.marks.0 = ap (λ (r : JournalView). length r.marks) k.marks.1 ∙ length-append old.journal.marks k.marks.0 in
+    let limit : new.journal.limit ≡ old.journal.limit = ap (λ (r : JournalView). r.limit) k.marks.1 in
     let many : length new.own.items ≡ length old.own.items + length k.own.0 = ap (λ (xs : List ℕ). length xs) k.own.1 ∙ length-append old.own.items k.own.0 in
     record {
       sound = k.sound;
@@ -109,12 +109,12 @@ own_created f form = numbers-append 0 the_host f (new_node the_host form) ∙ ap
 pub ready_created : (old new : World) (request : Request) (form : Form) → IsSound old → HasRow request → IsMaking request form → create_refusal old.tree the_host ≡ None → new.journal ≡ old.journal → new.events ≡ old.events → new.tree ≡ created old.tree the_host form
     → new.own.items ≡ old.own.items ++ length old.tree ∷ [] → IsReady new (Build request)
 ready_created old new request form s row makes may journal events tree own =
-    let P : Record → Type 0 = λ j. new.tree ≡ (built (stage_of j.marks) request).nodes in
-    let Q : Record → Type 0 = λ j. new.events ≡ length (built (stage_of j.marks) request).events in
-    let G : Record → Type 0 = λ j. IsGenuine j.marks in
+    let P : JournalView → Type 0 = λ j. new.tree ≡ (built (stage_of j.marks) request).nodes in
+    let Q : JournalView → Type 0 = λ j. new.events ≡ length (built (stage_of j.marks) request).events in
+    let G : JournalView → Type 0 = λ j. IsGenuine j.marks in
     let one : (g : Stage) → old.tree ≡ g.nodes → create_refusal g.nodes the_host ≡ None = λ g e. subst (λ (f : Forest). create_refusal f the_host ≡ None) e may in
     let now = makes (stage_of old.journal.marks) (one (stage_of old.journal.marks) s.nodes) in
-    let long : length new.journal.marks ≡ length old.journal.marks = ap (λ (r : Record). length r.marks) journal in
+    let long : length new.journal.marks ≡ length old.journal.marks = ap (λ (r : JournalView). length r.marks) journal in
     let more : length new.tree ≡ length old.tree + 1 = ap (λ (f : Forest). length f) tree ∙ length-append old.tree (new_node the_host form ∷ []) in
     record {
       genuine = subst G (sym journal) s.genuine;
@@ -129,11 +129,11 @@ ready_created old new request form s row makes may journal events tree own =
 ready_nodes : (old new : World) (request : Request) (f : Forest) → HasRow request → IsSound old → ((s : Stage) → old.tree ≡ s.nodes → (f ≡ (built s request).nodes) × (length (built s request).events ≡ length s.events)) → new.journal ≡ old.journal → new.events ≡ old.events → new.tree ≡ f → new.own ≡ old.own
     → own_nodes f ≡ own_nodes old.tree → length f ≡ length old.tree → IsReady new (Build request)
 ready_nodes old new request f row s is journal events tree own same long =
-    let P : Record → Type 0 = λ j. new.tree ≡ (built (stage_of j.marks) request).nodes in
-    let Q : Record → Type 0 = λ j. new.events ≡ length (built (stage_of j.marks) request).events in
-    let G : Record → Type 0 = λ j. IsGenuine j.marks in
+    let P : JournalView → Type 0 = λ j. new.tree ≡ (built (stage_of j.marks) request).nodes in
+    let Q : JournalView → Type 0 = λ j. new.events ≡ length (built (stage_of j.marks) request).events in
+    let G : JournalView → Type 0 = λ j. IsGenuine j.marks in
     let now = is (stage_of old.journal.marks) s.nodes in
-    let marks : length new.journal.marks ≡ length old.journal.marks = ap (λ (r : Record). length r.marks) journal in
+    let marks : length new.journal.marks ≡ length old.journal.marks = ap (λ (r : JournalView). length r.marks) journal in
     let many : length new.tree ≡ length f = ap (λ (g : Forest). length g) tree in
     record {
       genuine = subst G (sym journal) s.genuine;
@@ -205,7 +205,7 @@ pub head_built : (old new : World) (title : List ℕ) (nodes : ℕ) → stage_of
 head_built old new title nodes first h =
     let P : Stage → Type 0 = λ s. new.tree ≡ (built_all s (head_writes title)).nodes in
     let whole : stage_of new.journal.marks ≡ built_all (stage_of old.journal.marks) (head_writes title) =
-    ap (λ (r : Record). stage_of r.marks) h.marks.1 ∙ stage_from-append start old.journal.marks h.marks.0 ∙ stage_built old.journal.marks (head_writes title) h.marks.0 h.marks.2 in
+    ap (λ (r : JournalView). stage_of r.marks) h.marks.1 ∙ stage_from-append start old.journal.marks h.marks.0 ∙ stage_built old.journal.marks (head_writes title) h.marks.0 h.marks.2 in
     let same = subst P first (h.sound.nodes ∙ ap (λ (s : Stage). s.nodes) whole) in
     subst IsHeaded (sym same) (head_stands title)
 
@@ -240,7 +240,7 @@ create_told world member text arguments s rooted a =
 
 -- the journal after a mark, where the document changed before
 pub adds_through : (old mid new : World) (mark : Mark) → mid.journal ≡ old.journal → new ≡ record mid { journal = record mid.journal { marks = mid.journal.marks ++ mark ∷ [] } } → Adds old.journal new.journal (mark ∷ [])
-adds_through old mid new mark m e = ap (λ (world : World). world.journal) e ∙ ap (λ (j : Record). record j { marks = j.marks ++ mark ∷ [] }) m
+adds_through old mid new mark m e = ap (λ (world : World). world.journal) e ∙ ap (λ (j : JournalView). record j { marks = j.marks ++ mark ∷ [] }) m
 
 -- a text that is read, and a number that is known
 pub element_built : (a b d : World) (n m : ℕ) (tag t : List ℕ) (parent : Thing) → t ≡ tag → m ≡ n → HasBuilt (creates t ∷ []) 1 a b → HasBuilt (appends parent (thing_of Element m) ∷ []) 0 b d → HasBuilt (element_writes n tag parent) 1 a d
@@ -383,16 +383,16 @@ pub room_less : (world : World) (a b m n : ℕ) → HasRoom a b world → m ≤ 
 room_less world a b m n h less fewer = record { sound = h.sound; rooted = h.rooted; room = omega (arith, h.room, less); limit = h.limit; few = omega (arith, h.few, fewer) }
 
 -- how a journal grows
-pub adds_long : (old new : Record) (marks : List Mark) → Adds old new marks → length new.marks ≡ length old.marks + length marks
-adds_long old new marks e = ap (λ (r : Record). length r.marks) e ∙ length-append old.marks marks
+pub adds_long : (old new : JournalView) (marks : List Mark) → Adds old new marks → length new.marks ≡ length old.marks + length marks
+adds_long old new marks e = ap (λ (r : JournalView). length r.marks) e ∙ length-append old.marks marks
 
-pub adds_limit : (old new : Record) (marks : List Mark) → Adds old new marks → new.limit ≡ old.limit
-adds_limit old new marks e = ap (λ (r : Record). r.limit) e
+pub adds_limit : (old new : JournalView) (marks : List Mark) → Adds old new marks → new.limit ≡ old.limit
+adds_limit old new marks e = ap (λ (r : JournalView). r.limit) e
 
-pub adds_then : (a b d : Record) (xs ys : List Mark) → Adds a b xs → Adds b d ys → Adds a d (xs ++ ys)
+pub adds_then : (a b d : JournalView) (xs ys : List Mark) → Adds a b xs → Adds b d ys → Adds a d (xs ++ ys)
 adds_then a b d xs ys p q =
-    let add : Record → Record = λ r. record r { marks = r.marks ++ ys } in
-    let at : List Mark → Record = λ ms. record a { marks = ms } in
+    let add : JournalView → JournalView = λ r. record r { marks = r.marks ++ ys } in
+    let at : List Mark → JournalView = λ ms. record a { marks = ms } in
     q ∙ ap add p ∙ ap at (append_assoc a.marks xs ys)
 
 -- the host makes an event
@@ -401,10 +401,10 @@ pub ready_event : (old new : World) (kind : List ℕ) (bubbles : Bool) (values :
 ready_event old new kind bubbles values s journal tree own events e =
     let flags = Str kind ∷ (BoolValue bubbles ∷ (BoolValue false ∷ (NullValue ∷ []))) in
     let P : List Value → Type 0 = λ xs. IsReady new (Build (Native NewEvent the_window xs)) in
-    let N : Record → Type 0 = λ j. new.tree ≡ (stage_of j.marks).nodes in
-    let Q : Record → Type 0 = λ j. new.events ≡ length (built (stage_of j.marks) (Native NewEvent the_window flags)).events in
-    let G : Record → Type 0 = λ j. IsGenuine j.marks in
-    let marks : length new.journal.marks ≡ length old.journal.marks = ap (λ (r : Record). length r.marks) journal in
+    let N : JournalView → Type 0 = λ j. new.tree ≡ (stage_of j.marks).nodes in
+    let Q : JournalView → Type 0 = λ j. new.events ≡ length (built (stage_of j.marks) (Native NewEvent the_window flags)).events in
+    let G : JournalView → Type 0 = λ j. IsGenuine j.marks in
+    let marks : length new.journal.marks ≡ length old.journal.marks = ap (λ (r : JournalView). length r.marks) journal in
     let many : length new.tree ≡ length old.tree = ap (λ (g : Forest). length g) tree in
     let more : length (built (stage_of old.journal.marks) (Native NewEvent the_window flags)).events ≡ length (stage_of old.journal.marks).events + 1 = length-append (stage_of old.journal.marks).events _ in
     subst P (sym e) (record {

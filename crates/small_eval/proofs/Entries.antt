@@ -1,7 +1,7 @@
 -- One whole entry of a script.
 use Rattle.std.proofs.Common.{◌≡◌, ◌≢◌, ◌∙◌, ap, sym, refl, subst, ℕ, ◌+◌, ◌-◌, ◌≤◌, ◌<◌, Bool, true, false, List, [], ◌∷◌, ◌++◌, append_assoc, arith, length, length-append, nat_eq, Result, Ok, Err, OnOk}
 use Rattle.std.proofs.lemmas.Bool.Decides.{nat_tests}
-use Rattle.door.specs.Record.{Record}
+use Rattle.door.specs.JournalView.{JournalView}
 use Rattle.door.specs.declared.values.Actor.{Actor}
 use Rattle.door.specs.declared.zones.Zone.{Zone}
 use Rattle.door.specs.declared.marks.Outcome.{Outcome}
@@ -40,10 +40,10 @@ pub ready_leave : (world : World) (i : Actor) (outcome : Outcome) (units : ℕ) 
 ready_leave world i outcome units s = ready_still world (Leave i outcome units) s tt refl
 
 pub fuel_left : (i : Actor) (a b : World) (f g : ℕ) → PreservesRest i a b f g → g ≤ f
-fuel_left i a b f g k = let long = ap (λ (r : Record). length r.marks) k.asks.1 ∙ length-append a.journal.marks k.asks.0 in omega (arith, k.spent, long)
+fuel_left i a b f g k = let long = ap (λ (r : JournalView). length r.marks) k.asks.1 ∙ length-append a.journal.marks k.asks.0 in omega (arith, k.spent, long)
 
 pub room_left : (i : Actor) (a b : World) (g : ℕ) → PreservesRest i a b FUEL_LIMIT g → length a.journal.marks + (FUEL_LIMIT + 1) ≤ a.journal.limit → length b.journal.marks < b.journal.limit
-room_left i a b g k h = let same = ap (λ (r : Record). r.limit) k.asks.1 in omega (arith, k.spent, h, same)
+room_left i a b g k h = let same = ap (λ (r : JournalView). r.limit) k.asks.1 in omega (arith, k.spent, h, same)
 
 -- the marks of the whole entry
 pub entry_marks : (i : Actor) (text : List ℕ) (old a b new : World) (outcome : Outcome) (units left : ℕ) → a.journal ≡ record old.journal { marks = old.journal.marks ++ Enter i (Script text) ∷ [] } → PreservesRest i a b FUEL_LIMIT left
@@ -52,11 +52,11 @@ entry_marks i text old a b new outcome units left e k f =
     let asks = k.asks.0 in
     let enter = Enter i (Script text) in
     let leaves = Leave i outcome units ∷ [] in
-    let at : List Mark → Record = λ ms. record old.journal { marks = ms } in
-    let add : List Mark → Record → Record = λ ms r. record r { marks = r.marks ++ ms } in
+    let at : List Mark → JournalView = λ ms. record old.journal { marks = ms } in
+    let add : List Mark → JournalView → JournalView = λ ms r. record r { marks = r.marks ++ ms } in
     let joined : (((old.journal.marks ++ enter ∷ []) ++ asks) ++ leaves) ≡ old.journal.marks ++ enter ∷ (asks ++ leaves) =
     append_assoc (old.journal.marks ++ enter ∷ []) asks leaves ∙ append_assoc old.journal.marks (enter ∷ []) (asks ++ leaves) in
-    let few : length asks + left ≤ FUEL_LIMIT = let long = ap (λ (r : Record). length r.marks) k.asks.1 ∙ length-append a.journal.marks asks in omega (arith, k.spent, long) in (
+    let few : length asks + left ≤ FUEL_LIMIT = let long = ap (λ (r : JournalView). length r.marks) k.asks.1 ∙ length-append a.journal.marks asks in omega (arith, k.spent, long) in (
       enter ∷ (asks ++ leaves),
       f ∙ ap (add leaves) k.asks.1 ∙ ap (λ r. add leaves (add asks r)) e ∙ ap at joined,
       record { asks = asks; outcome = outcome; units = units; own = k.asks.2; whole = refl },
@@ -131,8 +131,8 @@ pub idle_entry : (setups : Setups) (i : Actor) (zone : Zone) (text : List ℕ) (
     → AreIdle setups old.journal.marks → AreIdle setups (b.journal.marks ++ Leave i outcome (FUEL_LIMIT - left) ∷ [])
 idle_entry setups i zone text lines old a b ended outcome left guest z reads goes o e k runs all =
     let entered : List Mark = old.journal.marks ++ Enter i (Script text) ∷ [] in
-    let begun : a.journal.marks ≡ entered = ap (λ (r : Record). r.marks) e in
-    let ended_at : b.journal.marks ≡ entered ++ k.asks.0 = ap (λ (r : Record). r.marks) k.asks.1 ∙ ap (λ ms. ms ++ k.asks.0) begun in
+    let begun : a.journal.marks ≡ entered = ap (λ (r : JournalView). r.marks) e in
+    let ended_at : b.journal.marks ≡ entered ++ k.asks.0 = ap (λ (r : JournalView). r.marks) k.asks.1 ∙ ap (λ ms. ms ++ k.asks.0) begun in
     let P : List Mark → Type 0 = λ ms. AreIdle setups (ms ++ Leave i outcome (FUEL_LIMIT - left) ∷ []) in
     let here : (s : Setup) (c : Cont) → HasReached s i entered (lines_row zone lines c FUEL) → ContinuesWithLine s i (entered ++ k.asks.0) left c ended =
     λ s c h. let R : List Mark → Type 0 = λ ms. ContinuesWithLine s i ms left c ended in

@@ -3,7 +3,7 @@ use Rattle.std.proofs.Common.{◌≡◌, ◌∙◌, ap, sym, refl, subst, ℕ, �
 use Prim.Native.Nat.{zero, suc}
 use Rattle.std.specs.Prelude.{slice_get}
 use Rattle.std.proofs.lemmas.List.{append-nil}
-use Rattle.door.specs.Record.{Record}
+use Rattle.door.specs.JournalView.{JournalView}
 use Rattle.door.specs.declared.requests.Request.{Request}
 use Rattle.door.specs.declared.zones.Zone.TheVariants.{Page as PageZone, XrayScript}
 use Rattle.door.specs.declared.marks.Mark.{Mark}
@@ -118,15 +118,15 @@ block_few false = none
 pub pieces_room : (first world : World) → first.journal ≡ record { marks = []; limit = MARK_LIMIT } → first.own.items ≡ 0 ∷ [] → IsSound world → world.own ≡ first.own → Adds first.journal world.journal (Turn (PieceTask 0) ∷ []) → HasRoom 100 10 world
 pieces_room first world e own s same adds =
     let gone = gone_none first world 1 s same (Turn (PieceTask 0) ∷ []) adds (omega arith) in
-    let none : length first.journal.marks ≡ 0 = ap (λ (r : Record). length r.marks) e in
-    let limit : first.journal.limit ≡ MARK_LIMIT = ap (λ (r : Record). r.limit) e in
+    let none : length first.journal.marks ≡ 0 = ap (λ (r : JournalView). length r.marks) e in
+    let limit : first.journal.limit ≡ MARK_LIMIT = ap (λ (r : JournalView). r.limit) e in
     let items : world.own.items ≡ 0 ∷ [] = ap (λ v. v.items) same ∙ own in
     let one : length world.own.items ≡ 1 = ap (λ (xs : List ℕ). length xs) items in
     record { sound = s; rooted = ([], items); room = omega (arith, gone.long, gone.limit, none, limit); limit = omega (arith, gone.limit, limit); few = omega (arith, one) }
 
 pub pieces_start : (first world : World) → first.journal ≡ record { marks = []; limit = MARK_LIMIT } → Adds first.journal world.journal (Turn (PieceTask 0) ∷ []) → stage_of world.journal.marks ≡ start
 unfolding stage_from
-pieces_start first world e adds = ap (λ (r : Record). stage_of r.marks) adds ∙ ap (λ (r : Record). stage_of (r.marks ++ Turn (PieceTask 0) ∷ [])) e
+pieces_start first world e adds = ap (λ (r : JournalView). stage_of r.marks) adds ∙ ap (λ (r : JournalView). stage_of (r.marks ++ Turn (PieceTask 0) ∷ [])) e
 
 pub pieces_own : (first world : World) → first.own.items ≡ 0 ∷ [] → world.own ≡ first.own → length world.own.items ≡ 1
 pieces_own first world own same = ap (λ v. length v.items) same ∙ ap (λ (xs : List ℕ). length xs) own
@@ -140,8 +140,8 @@ pub pieces_begun : (page : Page) (first world x y : World) → first.journal ≡
     → ((setups : Setups) → AreIdle setups first.journal.marks → AreIdle setups world.journal.marks) → HasBuilt (head_writes page.title) 5 world x → HasBuilt (block_writes page.blocks) (block_nodes page.blocks) x y → IsHeaded y.tree → AtPiece page 0 first y
 pieces_begun page first world x y e own s same adds idle head blocks headed =
     let gone = gone_none first world 1 s same (Turn (PieceTask 0) ∷ []) adds (omega arith) in
-    let none : length first.journal.marks ≡ 0 = ap (λ (r : Record). length r.marks) e in
-    let limit : first.journal.limit ≡ MARK_LIMIT = ap (λ (r : Record). r.limit) e in
+    let none : length first.journal.marks ≡ 0 = ap (λ (r : JournalView). length r.marks) e in
+    let limit : first.journal.limit ≡ MARK_LIMIT = ap (λ (r : JournalView). r.limit) e in
     let one = gone_built world x (head_writes page.title) 5 10 head (head_few page.title) in
     let two = gone_built x y (block_writes page.blocks) (block_nodes page.blocks) 6 blocks (block_few page.blocks) in
     let single = pieces_own first world own same in
@@ -175,7 +175,7 @@ pieces_begun page first world x y e own s same adds idle head blocks headed =
     root p q = (p.own.0 ++ q.own.0, q.own.1 ∙ ap (λ ns. ns ++ q.own.0) (p.own.1 ∙ ap (λ ns. ns ++ p.own.0) (ap (λ v. v.items) same ∙ own)))
 
     empty : (input : Input) → AreTurns input [] [] first.journal.marks
-    empty input = no_turns input first.journal.marks (ap (λ (r : Record). r.marks) e)
+    empty input = no_turns input first.journal.marks (ap (λ (r : JournalView). r.marks) e)
 
 -- after the last piece
 pub pieces_ended : (page : Page) (k : ℕ) (first now : World) → AtPiece page k first now → k ≡ length (texts_of_scripts page.scripts) → (input : Input) → input.pieces ≡ pieces_of page → AreTurns input [] (numbered PieceTask 0 input.pieces) now.journal.marks

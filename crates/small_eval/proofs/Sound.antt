@@ -1,7 +1,7 @@
 -- How a world stays what its journal makes.
 use Rattle.std.proofs.Common.{◌≡◌, ◌∙◌, ap, sym, refl, subst, ℕ, ◌+◌, ◌≤◌, ◌<◌, List, [], ◌∷◌, ◌++◌, arith, map, length, length-append, append_assoc, Result, Err}
 use Rattle.std.proofs.lemmas.List.{append-nil}
-use Rattle.door.specs.Record.{Record}
+use Rattle.door.specs.JournalView.{JournalView}
 use Rattle.door.specs.declared.values.Actor.{Actor}
 use Rattle.door.specs.declared.values.Thing.{Thing}
 use Rattle.door.specs.declared.values.Value.TheVariants.{Str as StrValue, Thing as ThingValue}
@@ -58,7 +58,7 @@ met_asked i marks request given = met-more i marks (Ask i request given) ∙ rw 
 pub keeps_none : (i : Actor) (world : World) (fuel left : ℕ) → IsSound world → left ≤ fuel → PreservesRest i world world fuel left
 unfolding AreAsksOf
 keeps_none i world fuel left s h =
-    let same : Record → Record = λ r. record r { marks = r.marks ++ [] } in
+    let same : JournalView → JournalView = λ r. record r { marks = r.marks ++ [] } in
     record { sound = s; asks = ([], ap (λ xs. record world.journal { marks = xs }) (sym (append-nil world.journal.marks)), tt); spent = omega (arith, h); headed = λ x. x; own = refl }
 
 asks_one : (i : Actor) (request : Request) (given : Answer) → AreAsksOf i (Ask i request given ∷ [])
@@ -68,7 +68,7 @@ asks_one i request given = (refl, tt)
 -- a request was added
 pub keeps_one : (i : Actor) (old new : World) (request : Request) (given : Answer) (fuel left : ℕ) → IsSound new → new.journal ≡ record old.journal { marks = old.journal.marks ++ Ask i request given ∷ [] } → left + 1 ≤ fuel → (IsHeaded old.tree → IsHeaded new.tree) → new.own ≡ old.own → PreservesRest i old new fuel left
 keeps_one i old new request given fuel left s e h headed own =
-    let long : length new.journal.marks ≡ length old.journal.marks + 1 = ap (λ (r : Record). length r.marks) e ∙ length-append old.journal.marks (Ask i request given ∷ []) in
+    let long : length new.journal.marks ≡ length old.journal.marks + 1 = ap (λ (r : JournalView). length r.marks) e ∙ length-append old.journal.marks (Ask i request given ∷ []) in
     record { sound = s; asks = (Ask i request given ∷ [], e, asks_one i request given); spent = omega (arith, h, long); headed = headed; own = own }
 
 -- the document that is answered
@@ -101,8 +101,8 @@ keeps_then i a b d f g h x y = record {
   where
     joined : b.journal ≡ record a.journal { marks = a.journal.marks ++ x.asks.0 } → d.journal ≡ record b.journal { marks = b.journal.marks ++ y.asks.0 } → d.journal ≡ record a.journal { marks = a.journal.marks ++ (x.asks.0 ++ y.asks.0) }
     joined p q =
-        let add : Record → Record = λ r. record r { marks = r.marks ++ y.asks.0 } in
-        let at : List Mark → Record = λ ms. record a.journal { marks = ms } in
+        let add : JournalView → JournalView = λ r. record r { marks = r.marks ++ y.asks.0 } in
+        let at : List Mark → JournalView = λ ms. record a.journal { marks = ms } in
         q ∙ ap add p ∙ ap at (append_assoc a.journal.marks x.asks.0 y.asks.0)
 
     both : (xs ys : List Mark) → AreAsksOf i xs → AreAsksOf i ys → AreAsksOf i (xs ++ ys)
@@ -148,7 +148,7 @@ pub met_still : (i : Actor) (old new : List Mark) → MeetsNothing i old new →
 met_still i old new m h = rw (m h) h
 
 pub limit_of : (i : Actor) (a b : World) (f g : ℕ) → PreservesRest i a b f g → b.journal.limit ≡ a.journal.limit
-limit_of i a b f g k = ap (λ (r : Record). r.limit) k.asks.1
+limit_of i a b f g k = ap (λ (r : JournalView). r.limit) k.asks.1
 
 pub room_of : (i : Actor) (a b : World) (f g : ℕ) → PreservesRest i a b f g → length a.journal.marks + f < a.journal.limit → length b.journal.marks + g < b.journal.limit
 room_of i a b f g k h = let same = limit_of i a b f g k in omega (arith, k.spent, h, same)

@@ -3,7 +3,7 @@ use Rattle.std.proofs.Common.{◌≡◌, ◌∙◌, ap, sym, refl, subst, ℕ, �
 use Prim.Native.Nat.{zero, suc}
 use Rattle.std.specs.Prelude.{slice_get}
 use Rattle.std.proofs.lemmas.List.{append-nil}
-use Rattle.door.specs.Record.{Record}
+use Rattle.door.specs.JournalView.{JournalView}
 use Rattle.door.specs.declared.requests.Request.{Request}
 use Rattle.door.specs.declared.marks.Mark.{Mark}
 use Rattle.door.specs.declared.marks.Mark.TheVariants.{Turn}
@@ -29,9 +29,9 @@ use Rattle.small_eval.specs.Turns.{AreUserscripts, HasGone, IsBuilding, IsGoing}
 use Rattle.small_eval.specs.Worlds.{IsSound}
 
 -- the turn of a piece begins
-pub piece_begun : (input : Input) (tasks : List Task) (n : ℕ) (old new : Record) → AreTurns input [] tasks old.marks → Adds old new (Turn (PieceTask n) ∷ []) → IsBuilding input tasks n [] new.marks
+pub piece_begun : (input : Input) (tasks : List Task) (n : ℕ) (old new : JournalView) → AreTurns input [] tasks old.marks → Adds old new (Turn (PieceTask n) ∷ []) → IsBuilding input tasks n [] new.marks
 unfolding AreBuilds
-piece_begun input tasks n old new h e = record { done = old.marks; builds = []; turns = h; built = refl; whole = ap (λ (r : Record). r.marks) e ∙ sym (append-nil (old.marks ++ Turn (PieceTask n) ∷ [])) }
+piece_begun input tasks n old new h e = record { done = old.marks; builds = []; turns = h; built = refl; whole = ap (λ (r : JournalView). r.marks) e ∙ sym (append-nil (old.marks ++ Turn (PieceTask n) ∷ [])) }
 
 -- more of it is built
 pub piece_more : (input : Input) (tasks : List Task) (n : ℕ) (xs ys : List Request) (nodes : ℕ) (old new : World) → IsBuilding input tasks n xs old.journal.marks → HasBuilt ys nodes old new → IsBuilding input tasks n (xs ++ ys) new.journal.marks
@@ -43,7 +43,7 @@ piece_more input tasks n xs ys nodes old new h k =
       builds = h.builds ++ k.marks.0;
       turns = h.turns;
       built = builds-then before xs ys h.builds k.marks.0 h.built (subst P h.whole k.marks.2);
-      whole = ap (λ (r : Record). r.marks) k.marks.1 ∙ ap (λ ms. ms ++ k.marks.0) h.whole ∙ append_assoc before h.builds k.marks.0;
+      whole = ap (λ (r : JournalView). r.marks) k.marks.1 ∙ ap (λ ms. ms ++ k.marks.0) h.whole ∙ append_assoc before h.builds k.marks.0;
     }
 
 -- it ends with its script, if it has one
@@ -58,13 +58,13 @@ piece_done input tasks n requests script marks entry h e s =
     subst P (sym whole) (turns-then input [] tasks (PieceTask n ∷ []) h.done (begin ∷ turn) h.turns alone)
 
 -- another turn
-pub turn_done : (input : Input) (tasks : List Task) (task : Task) (old mid new : Record) (turn : List Mark) → AreTurns input [] tasks old.marks → Adds old mid (Turn task ∷ []) → Adds mid new turn → IsTurn input mid.marks task turn → AreTurns input [] (tasks ++ task ∷ []) new.marks
+pub turn_done : (input : Input) (tasks : List Task) (task : Task) (old mid new : JournalView) (turn : List Mark) → AreTurns input [] tasks old.marks → Adds old mid (Turn task ∷ []) → Adds mid new turn → IsTurn input mid.marks task turn → AreTurns input [] (tasks ++ task ∷ []) new.marks
 turn_done input tasks task old mid new turn h e f is =
-    let at : mid.marks ≡ old.marks ++ Turn task ∷ [] = ap (λ (r : Record). r.marks) e in
+    let at : mid.marks ≡ old.marks ++ Turn task ∷ [] = ap (λ (r : JournalView). r.marks) e in
     let P : List Mark → Type 0 = λ ms. AreTurns input [] (tasks ++ task ∷ []) ms in
     let Q : List Mark → Type 0 = λ ms. IsTurn input ms task turn in
     let alone = turn-alone input old.marks task turn (subst Q at is) in
-    let whole : new.marks ≡ old.marks ++ Turn task ∷ turn = ap (λ (r : Record). r.marks) f ∙ ap (λ ms. ms ++ turn) at ∙ append_assoc old.marks (Turn task ∷ []) turn in
+    let whole : new.marks ≡ old.marks ++ Turn task ∷ turn = ap (λ (r : JournalView). r.marks) f ∙ ap (λ ms. ms ++ turn) at ∙ append_assoc old.marks (Turn task ∷ []) turn in
     subst P (sym whole) (turns-then input [] tasks (task ∷ []) old.marks (Turn task ∷ turn) h alone)
 
 -- so many tasks from a number on
@@ -158,13 +158,13 @@ got_at (text ∷ texts) (suc k) h = got_at texts k (omega (arith, h))
 -- how much was added
 pub gone_none : (old new : World) (m : ℕ) → IsSound new → new.own ≡ old.own → (marks : List Mark) → Adds old.journal new.journal marks → length marks ≤ m → HasGone m 0 old new
 gone_none old new m s own marks e h =
-    let long : length new.journal.marks ≡ length old.journal.marks + length marks = ap (λ (r : Record). length r.marks) e ∙ length-append old.journal.marks marks in
-    record { sound = s; limit = ap (λ (r : Record). r.limit) e; long = omega (arith, long, h); own = ([], ap (λ v. v.items) own ∙ sym (append-nil old.own.items), refl) }
+    let long : length new.journal.marks ≡ length old.journal.marks + length marks = ap (λ (r : JournalView). length r.marks) e ∙ length-append old.journal.marks marks in
+    record { sound = s; limit = ap (λ (r : JournalView). r.limit) e; long = omega (arith, long, h); own = ([], ap (λ v. v.items) own ∙ sym (append-nil old.own.items), refl) }
 
 pub gone_built : (old new : World) (requests : List Request) (nodes m : ℕ) → HasBuilt requests nodes old new → length requests ≤ m → HasGone m nodes old new
 gone_built old new requests nodes m k h =
-    let long : length new.journal.marks ≡ length old.journal.marks + length k.marks.0 = ap (λ (r : Record). length r.marks) k.marks.1 ∙ length-append old.journal.marks k.marks.0 in
-    record { sound = k.sound; limit = ap (λ (r : Record). r.limit) k.marks.1; long = omega (arith, long, k.marks.3, h); own = k.own }
+    let long : length new.journal.marks ≡ length old.journal.marks + length k.marks.0 = ap (λ (r : JournalView). length r.marks) k.marks.1 ∙ length-append old.journal.marks k.marks.0 in
+    record { sound = k.sound; limit = ap (λ (r : JournalView). r.limit) k.marks.1; long = omega (arith, long, k.marks.3, h); own = k.own }
 
 pub gone_then : (a b d : World) (m n x y : ℕ) → HasGone m x a b → HasGone n y b d → HasGone (m + n) (x + y) a d
 gone_then a b d m n x y h k = record {

@@ -1,7 +1,7 @@
 -- The state of an actor's machine after a step of the code, for every continuation of its program.
 use Rattle.std.specs.Prelude.{◌≡◌, ◌*◌, ◌≤◌, ℕ, true, List, ◌++◌, Result, Ok, Err}
 use Rattle.std.specs.List.{list_any}
-use Rattle.door.specs.Record.{Record}
+use Rattle.door.specs.JournalView.{JournalView}
 use Rattle.door.specs.declared.values.Actor.{Actor}
 use Rattle.door.specs.declared.values.Thing.{Thing}
 use Rattle.door.specs.declared.marks.Mark.{Mark}
@@ -56,7 +56,7 @@ abbrev pub MeetsNothing : Actor → List Mark → List Mark → Type 0
 MeetsNothing i old new = HasMet i old → met_of i new ≡ met_of i old
 
 -- the journal after these marks are added
-abbrev pub Adds : Record → Record → List Mark → Type 0
+abbrev pub Adds : JournalView → JournalView → List Mark → Type 0
 Adds old new more = new ≡ record old { marks = old.marks ++ more }
 
 -- a number is at most that of so many numbers of 16 bits

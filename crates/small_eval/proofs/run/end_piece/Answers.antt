@@ -1,7 +1,7 @@
 use Rattle.std.proofs.Common.{◌+◌, ap, sym, subst, ◌∷◌, [], ◌++◌, List, Some, arith, length}
 use Rattle.door.specs.declared.marks.Mark.{Mark}
 use Rattle.door.specs.declared.marks.Task.TheVariants.{Piece}
-use Rattle.door.specs.Record.{Record}
+use Rattle.door.specs.JournalView.{JournalView}
 use Rattle.small_forms.specs.Scripts.{IsPageScript}
 use Rattle.small_forms.specs.declared.script.Line.{Line}
 use Rattle.solo_model.specs.Lawful.{AreTurns}
@@ -50,7 +50,7 @@ returns-clause-lawful c input tasks begun h e =
     let P : List Mark → Type 0 = λ ms. AreTurns input [] (tasks ++ Piece n ∷ []) ms in
     let built = piece_more input tasks n begun writes (script_nodes c.args.script.now.text) c.args.world.now c.build_script.new.world h c.in_ok-build_script.ensures.built in
     let done = piece_done input tasks n (begun ++ writes) (Some c.args.script.now.text) c.build_script.new.world.journal.marks entry.0 built e entry.2 in
-    piece_begun input (tasks ++ Piece n ∷ []) (n + 1) c.enter.new.world.journal c.turn.new.world.journal (subst P (sym (ap (λ (r : Record). r.marks) entry.1)) done) c.in_ok-turn.ensures.added
+    piece_begun input (tasks ++ Piece n ∷ []) (n + 1) c.enter.new.world.journal c.turn.new.world.journal (subst P (sym (ap (λ (r : JournalView). r.marks) entry.1)) done) c.in_ok-turn.ensures.added
 
 pub returns-clause-gone : goal.returns-clause-gone
 returns-clause-gone c =
