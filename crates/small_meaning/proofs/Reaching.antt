@@ -9,7 +9,8 @@ use Rattle.door.specs.declared.marks.Outcome.{Outcome}
 use Rattle.door.specs.declared.marks.Mark.{Mark}
 use Rattle.door.specs.declared.marks.Mark.TheVariants.{Turn, Build, Enter, Ask, Dispatch, Back, Leave, Serve, Served}
 use Rattle.js_semantics.specs.Solo.{Leaves, Program, Asks, Emits, State, Runs, Awaits}
-use Rattle.solo_model.specs.View.{Seen, is_actor, meets_answer, named_answer, named_request, seen_of, met_of, view_from, view_of}
+use Rattle.solo_model.specs.View.{is_actor, meets_answer, named_answer, named_request, seen_of, met_of, view_from, view_of}
+use Rattle.solo_model.specs.ActorView.{Seen}
 use Rattle.js_semantics.specs.Intrinsics.{Setup}
 use Rattle.small_meaning.specs.Rows.{Bare, beginning, enters}
 use Rattle.solo_model.specs.Reaches.{Reaches}

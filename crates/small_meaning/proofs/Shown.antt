@@ -32,7 +32,8 @@ use Rattle.solo_model.specs.Solo.{Answers, shows_of}
 use Rattle.solo_model.specs.Things.{the_document, the_page, the_window, thing_of, userscript}
 use Rattle.dom_semantics.specs.Titles.{title_of, title_refusal}
 use Rattle.solo_model.specs.Truth.{IsGenuineAfter, answer_of, only_of, refused_or, text_answer}
-use Rattle.solo_model.specs.View.{Met, Seen, Entered, Asked, Said, Returned, event_spot, is_actor, meets_entry, named, named_entry, is_thing, meets_answer, meets_thing, named_answer, named_request, view_from}
+use Rattle.solo_model.specs.View.{Met, event_spot, is_actor, meets_entry, named, named_entry, is_thing, meets_answer, meets_thing, named_answer, named_request, view_from}
+use Rattle.solo_model.specs.ActorView.{Seen, Entered, Asked, Said, Returned}
 use Rattle.small_meaning.specs.Shows.{AreFit, FitsEntry, FitsShow, IsText, entries_in}
 
 -- ---- what is entered

@@ -21,7 +21,8 @@ use Rattle.solo_model.specs.Lawful.{AreAsksOf, AreBuilds, AreTurns, Input, IsEnt
 use Rattle.solo_model.specs.Stage.{stage_of}
 use Rattle.solo_model.specs.Things.{the_page, userscript}
 use Rattle.solo_model.specs.Truth.{IsGenuineAfter}
-use Rattle.solo_model.specs.View.{Met, Seen, Entered, Asked, Said, Returned, is_actor, meets_answer, named_request, view_from}
+use Rattle.solo_model.specs.View.{Met, is_actor, meets_answer, named_request, view_from}
+use Rattle.solo_model.specs.ActorView.{Seen, Entered, Asked, Said, Returned}
 use Rattle.small_runs.proofs.Lockstep.{AllTame, Orderly}
 use Rattle.small_runs.proofs.Tame.{IsEnd, IsTame}
 use Rattle.small_runs.proofs.Views.{ArePlain, IsPlainAsk}

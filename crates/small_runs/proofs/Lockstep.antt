@@ -21,7 +21,7 @@ use Rattle.small_meaning.proofs.Lines.{IsOutermost, entry_alike}
 use Rattle.small_meaning.proofs.Lookups.{Begins, begins}
 use Rattle.small_meaning.proofs.Texts.{lines_sound}
 use Rattle.solo_model.specs.Solo.{Deed, IsSoloFrom, Requests, Says, deeds_of, shows_of}
-use Rattle.solo_model.specs.View.{Seen, Entered, Asked, Said}
+use Rattle.solo_model.specs.ActorView.{Seen, Entered, Asked, Said}
 use Rattle.small_runs.proofs.Tame.{IsEnd, IsReply, IsSmallZone, IsTame, Tame, script_tame}
 use Rattle.std.proofs.lemmas.List.{append-nil}
 

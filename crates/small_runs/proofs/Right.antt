@@ -37,7 +37,7 @@ use Rattle.small_forms.specs.Pages.{IsPage, texts_of_scripts}
 use Rattle.small_meaning.specs.Shows.{FitsEntry, IsText}
 use Rattle.small_meaning.proofs.Shown.{EntersOnly, entries_few, shown_fit, tasks_length, turns_enter}
 use Rattle.solo_model.specs.Acts.{setups_of}
-use Rattle.solo_model.specs.ActorView.{view_of}
+use Rattle.solo_model.specs.ActorView.{Seen, view_of}
 use Rattle.solo_model.specs.Closed as old
 use Rattle.solo_model.specs.Given.{Given, clocks_from, origin_of, setting_of}
 use Rattle.solo_model.specs.Genuine.{IsGenuine}
@@ -268,7 +268,7 @@ same_setup address pieces scripts read i (inr (m, text, got, is)) =
 pub nothing_done : (setup : Setup) (i : Actor) (marks : List Mark) → ArePlain marks → old_view.view_of i marks ≡ [] → SoloWhole setup i marks []
 unfolding IsSoloFrom old_deeds.shows_of old_deeds.deeds_of
 nothing_done setup i marks plain e =
-    let P : List old_view.Seen → Type 0 = λ seen. IsSoloFrom enters (beginning setup) (old_deeds.shows_of seen) (old_deeds.deeds_of seen ++ []) in
+    let P : List Seen → Type 0 = λ seen. IsSoloFrom enters (beginning setup) (old_deeds.shows_of seen) (old_deeds.deeds_of seen ++ []) in
     whole_of setup i marks [] plain (subst P (sym e) refl)
 
 -- ---- a whole run

@@ -29,7 +29,8 @@ use Rattle.small_meaning.proofs.Shown.{AllEnter, AreMet}
 use Rattle.solo_model.specs.Stage.{Stage, stage_of}
 use Rattle.solo_model.specs.Things.{the_document, the_window, thing_of}
 use Rattle.solo_model.specs.Truth.{IsGenuineAfter, answer_of, refused_or, text_answer}
-use Rattle.solo_model.specs.View.{Met, Seen, Entered, Asked, Said, Returned, is_actor, is_thing, meets_answer, meets_thing, named, named_answer, named_request, view_from}
+use Rattle.solo_model.specs.View.{Met, is_actor, is_thing, meets_answer, meets_thing, named, named_answer, named_request, view_from}
+use Rattle.solo_model.specs.ActorView.{Seen, Entered, Asked, Said, Returned}
 use Rattle.small_runs.proofs.Asks.{only_told}
 use Rattle.small_runs.proofs.Lockstep.{Told}
 use Rattle.small_runs.proofs.Tame.{IsReply}

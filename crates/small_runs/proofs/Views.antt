@@ -117,7 +117,7 @@ seen_ask i q after member thing arguments answer h = absurd h
 -- ---- views
 
 -- they show the same and do the same
-pub record Alike (xs : List old.Seen) (ys : List Seen) : Type 0 where
+pub record Alike (xs : List Seen) (ys : List Seen) : Type 0 where
   pub shows : shows_of ys ≡ old_deeds.shows_of xs
   pub deeds : deeds_of ys ≡ old_deeds.deeds_of xs
 
@@ -125,27 +125,27 @@ either_met : (b : Bool) (p p' : old.Met) (q q' : Met) → SameMet p q → SameMe
 either_met true p p' q q' h k = h
 either_met false p p' q q' h k = k
 
-entered_alike : (b : Bool) (e : Entry) (xs : List old.Seen) (ys : List Seen) → Alike xs ys
-    → Alike ((if b then old.Entered e ∷ [] else []) ++ xs) ((if b then Entered e ∷ [] else []) ++ ys)
+entered_alike : (b : Bool) (e : Entry) (xs : List Seen) (ys : List Seen) → Alike xs ys
+    → Alike ((if b then Entered e ∷ [] else []) ++ xs) ((if b then Entered e ∷ [] else []) ++ ys)
 unfolding shows_of deeds_of old_deeds.shows_of old_deeds.deeds_of
 entered_alike true e xs ys h = record { shows = ap (λ ss. old_deeds.Enters e ∷ ss) h.shows; deeds = h.deeds }
 entered_alike false e xs ys h = h
 
-asked_alike : (b : Bool) (r r' : Request) (a a' : Answer) (xs : List old.Seen) (ys : List Seen) → r' ≡ r → a' ≡ a → Alike xs ys
-    → Alike ((if b then old.Asked r a ∷ [] else []) ++ xs) ((if b then Asked r' a' ∷ [] else []) ++ ys)
+asked_alike : (b : Bool) (r r' : Request) (a a' : Answer) (xs : List Seen) (ys : List Seen) → r' ≡ r → a' ≡ a → Alike xs ys
+    → Alike ((if b then Asked r a ∷ [] else []) ++ xs) ((if b then Asked r' a' ∷ [] else []) ++ ys)
 unfolding shows_of deeds_of old_deeds.shows_of old_deeds.deeds_of
 asked_alike true r r' a a' xs ys e k h =
     record { shows = ap (λ x. old_deeds.Answers x ∷ shows_of ys) k ∙ ap (λ ss. old_deeds.Answers a ∷ ss) h.shows; deeds = ap (λ x. old_deeds.Requests x ∷ deeds_of ys) e ∙ ap (λ ds. old_deeds.Requests r ∷ ds) h.deeds }
 asked_alike false r r' a a' xs ys e k h = h
 
-said_alike : (b : Bool) (s t : Act) (xs : List old.Seen) (ys : List Seen) → t ≡ s → Alike xs ys
-    → Alike ((if b then old.Said s ∷ [] else []) ++ xs) ((if b then Said t ∷ [] else []) ++ ys)
+said_alike : (b : Bool) (s t : Act) (xs : List Seen) (ys : List Seen) → t ≡ s → Alike xs ys
+    → Alike ((if b then Said s ∷ [] else []) ++ xs) ((if b then Said t ∷ [] else []) ++ ys)
 unfolding shows_of deeds_of old_deeds.shows_of old_deeds.deeds_of
 said_alike true s t xs ys e h = record { shows = h.shows; deeds = ap (λ x. old_deeds.Says x ∷ deeds_of ys) e ∙ ap (λ ds. old_deeds.Says s ∷ ds) h.deeds }
 said_alike false s t xs ys e h = h
 
-returned_alike : (b : Bool) (a : Answer) (xs : List old.Seen) (ys : List Seen) → Alike xs ys
-    → Alike ((if b then old.Returned a ∷ [] else []) ++ xs) ((if b then Returned a ∷ [] else []) ++ ys)
+returned_alike : (b : Bool) (a : Answer) (xs : List Seen) (ys : List Seen) → Alike xs ys
+    → Alike ((if b then Returned a ∷ [] else []) ++ xs) ((if b then Returned a ∷ [] else []) ++ ys)
 unfolding shows_of deeds_of old_deeds.shows_of old_deeds.deeds_of
 returned_alike true a xs ys h = record { shows = ap (λ ss. old_deeds.Backs a ∷ ss) h.shows; deeds = h.deeds }
 returned_alike false a xs ys h = h

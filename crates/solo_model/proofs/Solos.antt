@@ -2,7 +2,7 @@
 use Rattle.std.proofs.Common.{ap, sym, refl, subst, ℕ, List, [], ◌∷◌}
 use Rattle.door.specs.declared.requests.Answer.{Answer}
 use Rattle.js_semantics.specs.Solo.{Act, Program, Asks, Emits, Stuck, State, Runs, Awaits, Entering}
-use Rattle.solo_model.specs.View.{Seen, Entered, Asked, Said, Returned}
+use Rattle.solo_model.specs.ActorView.{Seen, Entered, Asked, Said, Returned}
 use Rattle.solo_model.specs.Solo.{Show, Enters, Answers, Backs, Deed, Requests, Says, IsSoloFrom, deeds_of, shows_of}
 use Rattle.solo_model.specs.Reaches.{Reaches}
 

@@ -5,7 +5,8 @@ use Rattle.std.proofs.lemmas.List.{append-nil}
 use Rattle.door.specs.declared.values.Actor.{Actor}
 use Rattle.door.specs.declared.marks.Mark.{Mark}
 use Rattle.js_semantics.specs.Solo.{Asks, Emits, Stuck, State, Runs, Awaits, Entering}
-use Rattle.solo_model.specs.View.{Met, Seen, Entered, Asked, Said, Returned, is_actor, at_start, learnt, seen_of, met_from, met_of, view_from, view_of}
+use Rattle.solo_model.specs.View.{Met, is_actor, at_start, learnt, seen_of, met_from, met_of, view_from, view_of}
+use Rattle.solo_model.specs.ActorView.{Seen, Entered, Asked, Said, Returned}
 use Rattle.solo_model.specs.Reaches.{Reaches}
 
 -- the view of marks, and then of others

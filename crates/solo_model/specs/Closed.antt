@@ -9,7 +9,8 @@ use Rattle.door.specs.declared.requests.Request.TheVariants.{Reach}
 use Rattle.door.specs.declared.marks.Mark.{Mark}
 use Rattle.door.specs.declared.marks.Mark.TheVariants.{Enter, Ask, Leave}
 use Rattle.solo_model.specs.Things.{the_page}
-use Rattle.solo_model.specs.View.{Met, Seen, is_actor, met_of, named_request, view_of}
+use Rattle.solo_model.specs.View.{Met, is_actor, met_of, named_request, view_of}
+use Rattle.solo_model.specs.ActorView.{Seen}
 use Rattle.solo_model.specs.Solo.{Deed, IsSoloFrom, Requests, deeds_of, shows_of}
 use Rattle.js_semantics.specs.Intrinsics.{Setup}
 use Rattle.js_semantics.specs.Entries.{beginning, enters}

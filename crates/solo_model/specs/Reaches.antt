@@ -1,7 +1,7 @@
 -- The transition relation: a machine, run on an actor's view of the journal, reaches this state.
 use Rattle.std.specs.Prelude.{◌≡◌, List, [], ◌∷◌}
 use Rattle.js_semantics.specs.Solo.{Program, Asks, Emits, State, Runs, Awaits, Entering}
-use Rattle.solo_model.specs.View.{Seen, Entered, Asked, Said, Returned}
+use Rattle.solo_model.specs.ActorView.{Seen, Entered, Asked, Said, Returned}
 
 -- an actor's view takes its machine from one state to another: its requests and acts are the machine's, and the machine goes on with
 -- the entries and answers

@@ -4,7 +4,7 @@ use Rattle.door.specs.declared.requests.Request.{Request}
 use Rattle.door.specs.declared.requests.Answer.{Answer}
 use Rattle.door.specs.declared.marks.Entry.{Entry}
 use Rattle.js_semantics.specs.Solo.{Program, Asks, Emits, State, Runs, Awaits, Entering, Act}
-use Rattle.solo_model.specs.View.{Seen, Entered, Asked, Said, Returned}
+use Rattle.solo_model.specs.ActorView.{Seen, Entered, Asked, Said, Returned}
 
 -- what a script is shown: an entry, the answer to a request, what a dispatch gives back
 pub data Show : Type 0 where

@@ -17,7 +17,8 @@ use Rattle.door.specs.declared.marks.Entry.{Entry}
 use Rattle.door.specs.declared.marks.Entry.TheVariants.{Listener}
 use Rattle.door.specs.declared.marks.Mark.{Mark}
 use Rattle.door.specs.declared.marks.Mark.TheVariants.{Enter, Ask, Dispatch, Back, Leave}
-use Rattle.js_semantics.specs.Solo.{Act, Dispatches, Leaves}
+use Rattle.js_semantics.specs.Solo.{Dispatches, Leaves}
+use Rattle.solo_model.specs.ActorView.{Seen, Entered, Asked, Said, Returned}
 
 -- an object of an actor, by its place among the actor's own
 pub record Object : Type 0 where
@@ -32,13 +33,6 @@ pub record Met : Type 0 where
 -- the window is met at the start
 abbrev pub at_start : Met
 at_start = record { things = record { kind = Window; number = 0 } ∷ []; objects = [] }
-
--- one mark as its actor sees it
-pub data Seen : Type 0 where
-  Entered : Entry → Seen
-  Asked : Request → Answer → Seen
-  Said : Act → Seen
-  Returned : Answer → Seen
 
 -- the kinds of things, told apart
 abbrev pub kind_number : Kind → ℕ
