@@ -11,10 +11,8 @@ use Rattle.solo_model.specs.ActorView.{met_of, view_of}
 use Rattle.solo_model.specs.Closed as old
 use Rattle.solo_model.specs.Naming.{Met}
 use Rattle.solo_model.specs.Openings.{is_plain, opens}
-use Rattle.solo_model.specs.Solo.{Deed, IsSoloFrom, Show}
-use Rattle.solo_model.specs.Solo as old_deeds
+use Rattle.solo_model.specs.Solo.{deeds_of, shows_of, Deed, IsSoloFrom, Show}
 use Rattle.solo_model.specs.View as old_view
-use Rattle.solo_model.specs.ViewDeeds.{deeds_of, shows_of}
 use Rattle.small_runs.proofs.Views.{ArePlain, IsPlain}
 
 -- no script runs among the page's own
@@ -84,15 +82,15 @@ old_none_reached setups i met (mark ∷ marks) apart h = rw (old_unopened setups
 -- what an actor does while it is closed, and then these, is what it does over the whole journal, and then these
 pub old_whole : (setups : Setups) (i : Actor) (marks : List Mark) (due : List Deed) → AreApart setups → ArePlain marks
     → old.AreSolo setups i marks (old.closed_deeds setups i marks ++ due)
-    → IsSoloFrom enters (beginning (setups i)) (old_deeds.shows_of (old_view.view_of i marks)) (old_deeds.deeds_of (old_view.view_of i marks) ++ due)
+    → IsSoloFrom enters (beginning (setups i)) (shows_of (old_view.view_of i marks)) (deeds_of (old_view.view_of i marks) ++ due)
 old_whole setups i marks due apart plain solo =
     let whole = old_closed setups i marks apart plain in
-    let Shown : List Mark → Type 0 = λ front. IsSoloFrom enters (beginning (setups i)) (old_deeds.shows_of (old_view.view_of i front))
-    ((old_deeds.deeds_of (old_view.view_of i front) ++ old.reach_in setups i (old_view.met_of i front) marks) ++ due) in
-    let Done : List Deed → Type 0 = λ deeds. IsSoloFrom enters (beginning (setups i)) (old_deeds.shows_of (old_view.view_of i marks)) (deeds ++ due) in
+    let Shown : List Mark → Type 0 = λ front. IsSoloFrom enters (beginning (setups i)) (shows_of (old_view.view_of i front))
+    ((deeds_of (old_view.view_of i front) ++ old.reach_in setups i (old_view.met_of i front) marks) ++ due) in
+    let Done : List Deed → Type 0 = λ deeds. IsSoloFrom enters (beginning (setups i)) (shows_of (old_view.view_of i marks)) (deeds ++ due) in
     let none = old_none_reached setups i (old_view.met_of i marks) marks apart plain in
-    let bare : old_deeds.deeds_of (old_view.view_of i marks) ++ old.reach_in setups i (old_view.met_of i marks) marks ≡ old_deeds.deeds_of (old_view.view_of i marks) =
-    ap (λ reach. old_deeds.deeds_of (old_view.view_of i marks) ++ reach) none ∙ append-nil (old_deeds.deeds_of (old_view.view_of i marks)) in
+    let bare : deeds_of (old_view.view_of i marks) ++ old.reach_in setups i (old_view.met_of i marks) marks ≡ deeds_of (old_view.view_of i marks) =
+    ap (λ reach. deeds_of (old_view.view_of i marks) ++ reach) none ∙ append-nil (deeds_of (old_view.view_of i marks)) in
     subst Done bare (subst Shown whole solo)
 
 -- the same where these deeds are due

@@ -45,13 +45,11 @@ use Rattle.solo_model.specs.Lawful as old_lawful
 use Rattle.solo_model.specs.Lawful.{Input, Piece, tasks_of}
 use Rattle.solo_model.specs.NextMark.{IsLawful, MayEnd, Nothing, next_of}
 use Rattle.solo_model.specs.Right.{IsRight}
-use Rattle.solo_model.specs.Solo.{Deed, IsSoloFrom, Show}
-use Rattle.solo_model.specs.Solo as old_deeds
+use Rattle.solo_model.specs.Solo.{deeds_of, shows_of, Deed, IsSoloFrom, Show}
 use Rattle.solo_model.specs.Things.{the_page, userscript}
 use Rattle.solo_model.specs.Truth as truth
 use Rattle.solo_model.specs.View as old_view
 use Rattle.solo_model.specs.View.{is_actor}
-use Rattle.solo_model.specs.ViewDeeds.{deeds_of, shows_of}
 use Rattle.solo_model.proofs.Journals.{is_other}
 use Rattle.solo_model.proofs.Steps.{is_self}
 use Rattle.small_runs.proofs.Acting.{AllOf, AllOwnTame, By, EntersWith, Ordered, all_orderly, own_tame, turns_arranged}
@@ -133,7 +131,7 @@ pub record Journal (address bytes : List ℕ) (page : OnePage) (scripts : List U
 
 -- an actor's machine over the whole journal, and what is due of it
 abbrev pub SoloView : Setup → Actor → List Mark → List Deed → Type 0
-SoloView setup i marks due = IsSoloFrom enters (beginning setup) (old_deeds.shows_of (old_view.view_of i marks)) (old_deeds.deeds_of (old_view.view_of i marks) ++ due)
+SoloView setup i marks due = IsSoloFrom enters (beginning setup) (shows_of (old_view.view_of i marks)) (deeds_of (old_view.view_of i marks) ++ due)
 
 unlike_host : (i j : Actor) → i ≢ j → is_actor i j ≡ false
 unlike_host i j h = is_other i j h
@@ -254,7 +252,7 @@ pub whole_of : (setup : Setup) (i : Actor) (marks : List Mark) (due : List Deed)
 whole_of setup i marks due plain solo =
     let alike : Alike (old_view.view_of i marks) (view_of i marks) = same_views i marks plain in
     let Shown : List Show → Type 0 = λ shows. IsSoloFrom enters (beginning setup) shows (deeds_of (view_of i marks) ++ due) in
-    let Done : List Deed → Type 0 = λ deeds. IsSoloFrom enters (beginning setup) (old_deeds.shows_of (old_view.view_of i marks)) (deeds ++ due) in
+    let Done : List Deed → Type 0 = λ deeds. IsSoloFrom enters (beginning setup) (shows_of (old_view.view_of i marks)) (deeds ++ due) in
     subst Shown (sym alike.shows) (subst Done (sym alike.deeds) solo)
 
 -- the setups of those that act are the same
@@ -266,9 +264,9 @@ same_setup address pieces scripts read i (inr (m, text, got, is)) =
     let P : Actor → Type 0 = λ a. small_setups address a ≡ setups_of (given_of address pieces scripts read) a in subst P (sym is) (same_script address pieces scripts read m text got)
 
 pub nothing_done : (setup : Setup) (i : Actor) (marks : List Mark) → ArePlain marks → old_view.view_of i marks ≡ [] → SoloWhole setup i marks []
-unfolding IsSoloFrom old_deeds.shows_of old_deeds.deeds_of
+unfolding IsSoloFrom shows_of deeds_of
 nothing_done setup i marks plain e =
-    let P : List Seen → Type 0 = λ seen. IsSoloFrom enters (beginning setup) (old_deeds.shows_of seen) (old_deeds.deeds_of seen ++ []) in
+    let P : List Seen → Type 0 = λ seen. IsSoloFrom enters (beginning setup) (shows_of seen) (deeds_of seen ++ []) in
     whole_of setup i marks [] plain (subst P (sym e) refl)
 
 -- ---- a whole run

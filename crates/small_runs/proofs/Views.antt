@@ -20,9 +20,8 @@ use Rattle.dom_semantics.specs.Things.{is_actor, is_thing, thing_of}
 use Rattle.js_semantics.specs.Solo.{Act, Dispatches, Leaves}
 use Rattle.solo_model.specs.ActorView.{Seen, Entered, Asked, Said, Returned, learnt, seen_of, view_from, view_of}
 use Rattle.solo_model.specs.Naming.{Met, event_spot, meets_answer, meets_thing, met_first, named, named_answer, named_request}
-use Rattle.solo_model.specs.Solo as old_deeds
 use Rattle.solo_model.specs.View as old
-use Rattle.solo_model.specs.ViewDeeds.{deeds_of, shows_of}
+use Rattle.solo_model.specs.Solo.{Enters, Answers, Backs, Requests, Says, deeds_of, shows_of}
 
 -- ---- the marks of small runs
 
@@ -118,8 +117,8 @@ seen_ask i q after member thing arguments answer h = absurd h
 
 -- they show the same and do the same
 pub record Alike (xs : List Seen) (ys : List Seen) : Type 0 where
-  pub shows : shows_of ys ≡ old_deeds.shows_of xs
-  pub deeds : deeds_of ys ≡ old_deeds.deeds_of xs
+  pub shows : shows_of ys ≡ shows_of xs
+  pub deeds : deeds_of ys ≡ deeds_of xs
 
 either_met : (b : Bool) (p p' : old.Met) (q q' : Met) → SameMet p q → SameMet p' q' → SameMet (if b then p else p') (if b then q else q')
 either_met true p p' q q' h k = h
@@ -127,31 +126,31 @@ either_met false p p' q q' h k = k
 
 entered_alike : (b : Bool) (e : Entry) (xs : List Seen) (ys : List Seen) → Alike xs ys
     → Alike ((if b then Entered e ∷ [] else []) ++ xs) ((if b then Entered e ∷ [] else []) ++ ys)
-unfolding shows_of deeds_of old_deeds.shows_of old_deeds.deeds_of
-entered_alike true e xs ys h = record { shows = ap (λ ss. old_deeds.Enters e ∷ ss) h.shows; deeds = h.deeds }
+unfolding shows_of deeds_of
+entered_alike true e xs ys h = record { shows = ap (λ ss. Enters e ∷ ss) h.shows; deeds = h.deeds }
 entered_alike false e xs ys h = h
 
 asked_alike : (b : Bool) (r r' : Request) (a a' : Answer) (xs : List Seen) (ys : List Seen) → r' ≡ r → a' ≡ a → Alike xs ys
     → Alike ((if b then Asked r a ∷ [] else []) ++ xs) ((if b then Asked r' a' ∷ [] else []) ++ ys)
-unfolding shows_of deeds_of old_deeds.shows_of old_deeds.deeds_of
+unfolding shows_of deeds_of
 asked_alike true r r' a a' xs ys e k h =
-    record { shows = ap (λ x. old_deeds.Answers x ∷ shows_of ys) k ∙ ap (λ ss. old_deeds.Answers a ∷ ss) h.shows; deeds = ap (λ x. old_deeds.Requests x ∷ deeds_of ys) e ∙ ap (λ ds. old_deeds.Requests r ∷ ds) h.deeds }
+    record { shows = ap (λ x. Answers x ∷ shows_of ys) k ∙ ap (λ ss. Answers a ∷ ss) h.shows; deeds = ap (λ x. Requests x ∷ deeds_of ys) e ∙ ap (λ ds. Requests r ∷ ds) h.deeds }
 asked_alike false r r' a a' xs ys e k h = h
 
 said_alike : (b : Bool) (s t : Act) (xs : List Seen) (ys : List Seen) → t ≡ s → Alike xs ys
     → Alike ((if b then Said s ∷ [] else []) ++ xs) ((if b then Said t ∷ [] else []) ++ ys)
-unfolding shows_of deeds_of old_deeds.shows_of old_deeds.deeds_of
-said_alike true s t xs ys e h = record { shows = h.shows; deeds = ap (λ x. old_deeds.Says x ∷ deeds_of ys) e ∙ ap (λ ds. old_deeds.Says s ∷ ds) h.deeds }
+unfolding shows_of deeds_of
+said_alike true s t xs ys e h = record { shows = h.shows; deeds = ap (λ x. Says x ∷ deeds_of ys) e ∙ ap (λ ds. Says s ∷ ds) h.deeds }
 said_alike false s t xs ys e h = h
 
 returned_alike : (b : Bool) (a : Answer) (xs : List Seen) (ys : List Seen) → Alike xs ys
     → Alike ((if b then Returned a ∷ [] else []) ++ xs) ((if b then Returned a ∷ [] else []) ++ ys)
-unfolding shows_of deeds_of old_deeds.shows_of old_deeds.deeds_of
-returned_alike true a xs ys h = record { shows = ap (λ ss. old_deeds.Backs a ∷ ss) h.shows; deeds = h.deeds }
+unfolding shows_of deeds_of
+returned_alike true a xs ys h = record { shows = ap (λ ss. Backs a ∷ ss) h.shows; deeds = h.deeds }
 returned_alike false a xs ys h = h
 
 views_alike : (i : Actor) (p : old.Met) (q : Met) (marks : List Mark) → ArePlain marks → SameMet p q → Alike (old.view_from i p marks) (view_from i q marks)
-unfolding view_from old.view_from shows_of deeds_of old_deeds.shows_of old_deeds.deeds_of
+unfolding view_from old.view_from shows_of deeds_of
 views_alike i p q [] h e = record { shows = refl; deeds = refl }
 views_alike i p q (Turn task ∷ marks) h e = views_alike i p q marks h.1 e
 views_alike i p q (Build request ∷ marks) h e = views_alike i p q marks h.1 e

@@ -5,8 +5,7 @@ use Rattle.js_semantics.specs.Machine.{Machine}
 use Rattle.js_semantics.specs.Solo.{Act, Program, Asks, Emits, Stuck, State, Runs, Awaits, Entering}
 use Rattle.solo_model.specs.ActorView.{Seen, Entered, Asked, Said, Returned}
 use Rattle.solo_model.specs.MachineStates.{Reaches}
-use Rattle.solo_model.specs.Solo.{Says, Requests, IsSoloFrom}
-use Rattle.solo_model.specs.ViewDeeds.{deeds_of, shows_of}
+use Rattle.solo_model.specs.Solo.{deeds_of, shows_of, Says, Requests, IsSoloFrom}
 use Rattle.solo_model.proofs.Solos.{told_then}
 
 pub reached-alone : (entering : Entering Machine) (t : State Machine) (levels : ℕ) (m : Machine) (back : Machine → Answer → Program Machine) (seen : List Seen)

@@ -11,7 +11,7 @@ use Rattle.solo_model.specs.Given.{Given, granted_to, zone_of}
 use Rattle.solo_model.specs.Openings.{Zones, opens}
 use Rattle.solo_model.specs.Naming.{Met, named_request}
 use Rattle.solo_model.specs.ActorView.{Seen, met_of, view_of}
-use Rattle.solo_model.specs.ViewDeeds.{Deed, IsSoloFrom, Requests, deeds_of, shows_of}
+use Rattle.solo_model.specs.Solo.{Deed, IsSoloFrom, Requests, deeds_of, shows_of}
 
 -- what each actor is set up with
 abbrev pub Setups : Type 0

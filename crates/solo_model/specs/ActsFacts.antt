@@ -19,7 +19,7 @@ use Rattle.js_semantics.specs.Solo.{Leaves}
 use Rattle.solo_model.specs.Acts.{closed_deeds, closed_view, is_running}
 use Rattle.solo_model.specs.GenuineFacts.{setups}
 use Rattle.solo_model.specs.RunFacts.{actor}
-use Rattle.solo_model.specs.ViewDeeds.{Deed, Requests, Says, Enters, Answers, shows_of}
+use Rattle.solo_model.specs.Solo.{Deed, Requests, Says, Enters, Answers, shows_of}
 
 abbrev document : Request
 document = Native m.WindowDocument the_window []

@@ -14,7 +14,6 @@ pub mod Openings
 pub mod NextMark
 pub mod Naming
 pub mod ActorView
-pub mod ViewDeeds
 pub mod Shown
 pub mod MachineStates
 pub mod Acts

@@ -24,7 +24,7 @@ use Rattle.js_semantics.specs.Intrinsics.{Setup, fresh}
 use Rattle.js_semantics.specs.Solo.{Dispatches, Leaves}
 use Rattle.solo_model.specs.Shown.{object_keys as hidden_in_objects, array_keys as hidden_in_arrays, peeked_answer, peeked_keys_answer}
 use Rattle.solo_model.specs.ActorView.{Entered, Asked, Said, Returned, view_of}
-use Rattle.solo_model.specs.ViewDeeds.{Requests, Says, Answers, Backs, Enters, deeds_of, shows_of}
+use Rattle.solo_model.specs.Solo.{Requests, Says, Answers, Backs, Enters, deeds_of, shows_of}
 
 -- ---- an object of the page
 

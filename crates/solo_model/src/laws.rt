@@ -23,9 +23,8 @@ ghost use Rattle.solo_model.specs.Naming.{Met, Object, is_object, named, object_
 ghost use Rattle.solo_model.specs.Nesting.{progress_of};
 ghost use Rattle.solo_model.specs.NextMark.{IsCutByTasks, IsLawful, IsLawfulSoFar, waiting_task};
 ghost use Rattle.solo_model.specs.Openings as openings;
-ghost use Rattle.solo_model.specs.Solo.{IsSoloFrom, shows_of};
+ghost use Rattle.solo_model.specs.Solo.{IsSoloFrom, deeds_of, shows_of};
 ghost use Rattle.solo_model.specs.Tasks.{TASK_LIMIT};
-ghost use Rattle.solo_model.specs.ViewDeeds as view;
 
 use crate::determinism::entries_go_on_one_way;
 
@@ -51,7 +50,7 @@ pub fn the_closed_front_is_the_longest()
 pub fn equal_shows_of_a_run_give_equal_deeds()
     ensures { (setups others : Setups) (i : Actor) (marks more : List Mark) (k : ℕ) → setups i ≡ others i
         → acts.ActsAreSolo setups i marks → acts.ActsAreSolo others i more
-        → take k (view.shows_of (acts.closed_view setups i marks)) ≡ take k (view.shows_of (acts.closed_view others i more))
+        → take k (shows_of (acts.closed_view setups i marks)) ≡ take k (shows_of (acts.closed_view others i more))
         → take k (acts.closed_deeds setups i marks) ≡ take k (acts.closed_deeds others i more) }
 {
     entries_go_on_one_way();
@@ -93,5 +92,5 @@ pub fn names_tell_what_they_name()
 /// actor's deeds are what the machine does by itself.
 pub fn reached_machines_act_alone()
     ensures { (from : State Machine) (levels : ℕ) (m : Machine) (back : Machine → Answer → Program Machine) (seen : List Seen)
-        → Reaches enters from seen (Awaits levels m back) → IsSoloFrom enters from (view.shows_of seen) (view.deeds_of seen) }
+        → Reaches enters from seen (Awaits levels m back) → IsSoloFrom enters from (shows_of seen) (deeds_of seen) }
 {}

@@ -1,7 +1,7 @@
 use Rattle.std.proofs.Common.{refl}
 use Rattle.std.specs.Char.{encode_utf8}
 use Rattle.solo_model.specs.ActorView.{view_from, met_from}
-use Rattle.solo_model.specs.ViewDeeds.{deeds_of, shows_of}
+use Rattle.solo_model.specs.Solo.{deeds_of, shows_of}
 use Rattle.solo_model.proofs.facts.acts_are_computed.Goals as goal
 
 pub returns : goal.returns

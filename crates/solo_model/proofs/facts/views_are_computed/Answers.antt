@@ -3,7 +3,7 @@ use Rattle.std.specs.Char.{encode_utf8}
 use Rattle.std.specs.Fmt.{digits}
 use Rattle.js_semantics.specs.Intrinsics.{fresh}
 use Rattle.solo_model.specs.ActorView.{view_from}
-use Rattle.solo_model.specs.ViewDeeds.{deeds_of, shows_of}
+use Rattle.solo_model.specs.Solo.{deeds_of, shows_of}
 use Rattle.solo_model.proofs.facts.views_are_computed.Goals as goal
 
 pub returns : goal.returns

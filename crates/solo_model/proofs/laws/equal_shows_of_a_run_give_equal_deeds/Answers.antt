@@ -4,7 +4,7 @@ use Rattle.js_semantics.specs.Entries.{beginning, enters}
 use Rattle.js_semantics.specs.Intrinsics.{Setup, fresh}
 use Rattle.js_semantics.specs.Solo.{Stuck}
 use Rattle.solo_model.specs.Acts.{closed_deeds, closed_view}
-use Rattle.solo_model.specs.ViewDeeds.{IsSoloFrom, shows_of}
+use Rattle.solo_model.specs.Solo.{IsSoloFrom, shows_of}
 use Rattle.solo_model.proofs.OneWay.{same_deeds}
 use Rattle.solo_model.proofs.laws.equal_shows_of_a_run_give_equal_deeds.Goals as goal
 
