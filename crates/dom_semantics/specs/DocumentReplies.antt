@@ -19,7 +19,7 @@ use Rattle.dom_semantics.specs.ElementReplies.{query_row, first_or_null, tagged_
 use Rattle.dom_semantics.specs.declared.readiness.Readiness.{Readiness}
 use Rattle.dom_semantics.specs.declared.readiness.Readiness.TheVariants.{Loading, Interactive, Complete}
 use Rattle.dom_semantics.specs.Stage.{Stage, with_nodes}
-use Rattle.dom_semantics.specs.Reply.{Reply, Row, gives, gives_text, gives_nodes, does, unless}
+use Rattle.dom_semantics.specs.Reply.{Reply, Row, gives, gives_text, gives_nodes, does, unless_refused}
 
 -- documentElement
 abbrev pub document_element_row : Row
@@ -37,11 +37,11 @@ abbrev pub length_refusal : List ℕ → Option ErrorKind
 length_refusal t = if nat_lt TEXT_LIMIT (utf8_len t) then Some TooLong else None
 
 abbrev pub title_row : Row
-title_row given s i thing arguments = unless (length_refusal (title_of s.nodes)) s (gives_text (title_of s.nodes) s)
+title_row given s i thing arguments = unless_refused (length_refusal (title_of s.nodes)) s (gives_text (title_of s.nodes) s)
 
 -- title=
 abbrev pub set_title_row : Row
-set_title_row given s i thing (Str t ∷ []) = unless (title_refusal s.nodes i t) s (does (with_nodes s (titled s.nodes i t)))
+set_title_row given s i thing (Str t ∷ []) = unless_refused (title_refusal s.nodes i t) s (does (with_nodes s (titled s.nodes i t)))
 set_title_row given s i thing arguments = None
 
 -- readyState
@@ -60,12 +60,12 @@ address_row given s i thing arguments = gives_text given.address s
 -- ---- nodes are made
 
 abbrev pub create_reply : Stage → Actor → Form → Option Reply
-create_reply s i form = unless (create_refusal s.nodes i) s (gives (node_value (created s.nodes i form) (length s.nodes)) (with_nodes s
+create_reply s i form = unless_refused (create_refusal s.nodes i) s (gives (node_value (created s.nodes i form) (length s.nodes)) (with_nodes s
     (created s.nodes i form)))
 
 -- createElement: a bad name comes before the limit
 abbrev pub create_element_row : Row
-create_element_row given s i thing (Str tag ∷ []) = if is_tag tag then create_reply s i (Tagged (lower tag)) else unless (Some InvalidCharacter) s None
+create_element_row given s i thing (Str tag ∷ []) = if is_tag tag then create_reply s i (Tagged (lower tag)) else unless_refused (Some InvalidCharacter) s None
 create_element_row given s i thing arguments = None
 
 -- createTextNode, createComment

@@ -12,7 +12,7 @@ use Rattle.dom_semantics.specs.Things.{node_or_null}
 use Rattle.dom_semantics.specs.Names.{lower, name_of_form, is_attribute_name}
 use Rattle.dom_semantics.specs.Queries.{selected, tagged}
 use Rattle.dom_semantics.specs.Stage.{Stage, with_nodes}
-use Rattle.dom_semantics.specs.Reply.{Reply, Row, gives, gives_text, gives_flag, gives_nodes, does, unless}
+use Rattle.dom_semantics.specs.Reply.{Reply, Row, gives, gives_text, gives_flag, gives_nodes, does, unless_refused}
 
 -- tagName
 abbrev pub tag_name_row : Row
@@ -44,7 +44,7 @@ name_refusal good = if good then None else Some InvalidCharacter
 
 abbrev pub set_attribute_row : Row
 set_attribute_row given s i thing (Str name ∷ (Str t ∷ [])) =
-    unless (name_refusal (is_attribute_name name)) s (does (with_nodes s (with_attribute s.nodes thing.number (lower name) t)))
+    unless_refused (name_refusal (is_attribute_name name)) s (does (with_nodes s (with_attribute s.nodes thing.number (lower name) t)))
 set_attribute_row given s i thing arguments = None
 
 abbrev pub remove_attribute_row : Row
@@ -60,7 +60,7 @@ children_row given s i thing arguments = gives_nodes (filter (λ n. is_element (
 -- the selector is read, or the query is refused (DOM, scope-match a selectors string)
 abbrev pub query_row : (List ℕ → Stage → Option Reply) → Row
 query_row give given s i thing (Str t ∷ []) =
-    option_map_or (λ chains. give (selected s.nodes thing.number chains) s) (given.read_selector t) (unless (Some Syntax) s None)
+    option_map_or (λ chains. give (selected s.nodes thing.number chains) s) (given.read_selector t) (unless_refused (Some Syntax) s None)
 query_row give given s i thing arguments = None
 
 -- the first of these, or null

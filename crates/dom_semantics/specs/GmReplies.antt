@@ -8,7 +8,7 @@ use Rattle.door.specs.declared.members.Member.TheVariants as m
 use Rattle.door.specs.declared.requests.Answer.TheVariants.{Absent}
 use Rattle.dom_semantics.specs.Stage.{Stage, Origin, owner_of, with_stores}
 use Rattle.dom_semantics.specs.Stores.{Values, value_in, with_value, without_value, keys_in, values_of, with_values, value_refusal, held, kept_of}
-use Rattle.dom_semantics.specs.Reply.{Reply, Row, gives, gives_list, does, unless}
+use Rattle.dom_semantics.specs.Reply.{Reply, Row, gives, gives_list, does, unless_refused}
 
 -- an actor's own values, and the stage with others in their place
 abbrev pub own_values : Origin → Stage → Actor → Values
@@ -32,7 +32,7 @@ get_value_row given s i thing arguments = None
 -- GM_setValue
 abbrev pub set_value_row : Row
 set_value_row given s i thing (Str key ∷ (v ∷ [])) =
-    option_map_or (λ kept. unless (value_refusal (own_values given s i) key) s (does (keeping given s i (with_value key kept (own_values given s i)))))
+    option_map_or (λ kept. unless_refused (value_refusal (own_values given s i) key) s (does (keeping given s i (with_value key kept (own_values given s i)))))
     (kept_of v) None
 set_value_row given s i thing arguments = None
 

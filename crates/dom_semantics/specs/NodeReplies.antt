@@ -10,7 +10,7 @@ use Rattle.dom_semantics.specs.Changes.{insert_refusal, inserted, remove_refusal
 use Rattle.dom_semantics.specs.Things.{the_document, node_value, node_or_null}
 use Rattle.dom_semantics.specs.Names.{type_of_form, name_of_form}
 use Rattle.dom_semantics.specs.Stage.{Stage, with_nodes}
-use Rattle.dom_semantics.specs.Reply.{Reply, Row, gives, gives_text, gives_flag, gives_number, gives_nodes, does, unless}
+use Rattle.dom_semantics.specs.Reply.{Reply, Row, gives, gives_text, gives_flag, gives_number, gives_nodes, does, unless_refused}
 
 -- nodeType, nodeName
 abbrev pub type_row : Row
@@ -60,18 +60,18 @@ contains_row given s i thing arguments = None
 abbrev pub text_row : Row
 text_row given s i thing arguments =
     if is_document (form_at s.nodes thing.number) then gives Null s
-    else unless (read_refusal s.nodes thing.number) s (gives_text (text_of s.nodes thing.number) s)
+    else unless_refused (read_refusal s.nodes thing.number) s (gives_text (text_of s.nodes thing.number) s)
 
 -- textContent=: nothing on the document
 abbrev pub set_text_row : Row
-set_text_row given s i thing (Str t ∷ []) = unless (text_refusal s.nodes i thing.number t) s (does (with_nodes s (with_text s.nodes i thing.number t)))
+set_text_row given s i thing (Str t ∷ []) = unless_refused (text_refusal s.nodes i thing.number t) s (does (with_nodes s (with_text s.nodes i thing.number t)))
 set_text_row given s i thing arguments = None
 
 -- ---- changes
 
 -- the node is inserted before a child of the parent, or last
 abbrev pub insert_reply : Stage → ℕ → Value → ℕ → Option ℕ → Option Reply
-insert_reply s parent value n before = unless (insert_refusal s.nodes parent n before) s (gives value (with_nodes s (inserted s.nodes parent n before)))
+insert_reply s parent value n before = unless_refused (insert_refusal s.nodes parent n before) s (gives value (with_nodes s (inserted s.nodes parent n before)))
 
 -- appendChild
 abbrev pub append_row : Row
@@ -88,7 +88,7 @@ insert_row given s i thing arguments = None
 -- removeChild
 abbrev pub remove_child_row : Row
 remove_child_row given s i thing (ThingValue n ∷ []) =
-    unless (remove_refusal s.nodes thing.number n.number) s (gives (ThingValue n) (with_nodes s (removed s.nodes n.number)))
+    unless_refused (remove_refusal s.nodes thing.number n.number) s (gives (ThingValue n) (with_nodes s (removed s.nodes n.number)))
 remove_child_row given s i thing arguments = None
 
 -- remove: without a parent it does nothing
@@ -98,7 +98,7 @@ remove_row given s i thing arguments = does (with_nodes s (removed s.nodes thing
 -- cloneNode: a copy without listeners, made by the caller
 abbrev pub clone_row : Row
 clone_row given s i thing (BoolValue deep ∷ []) =
-    unless (clone_refusal s.nodes i thing.number deep) s
+    unless_refused (clone_refusal s.nodes i thing.number deep) s
     (gives (node_value (cloned s.nodes i thing.number deep) (length s.nodes)) (with_nodes s (cloned s.nodes i thing.number deep)))
 clone_row given s i thing arguments = None
 

@@ -50,9 +50,9 @@ abbrev pub gives_nodes : List ℕ → Stage → Option Reply
 gives_nodes ns s = gives_list (map (λ n. node_value s.nodes n) ns) s
 
 -- refused, and the stage is as it was; or else that reply
-abbrev pub unless : Option ErrorKind → Stage → Option Reply → Option Reply
-unless None s reply = reply
-unless (Some reason) s reply = Some (record { refusal = Some reason; answer = Throw reason; next = s })
+abbrev pub unless_refused : Option ErrorKind → Stage → Option Reply → Option Reply
+unless_refused None s reply = reply
+unless_refused (Some reason) s reply = Some (record { refusal = Some reason; answer = Throw reason; next = s })
 
 -- there is a reply, with this answer and this stage after it
 abbrev pub Is : Option Reply → Answer → Stage → Type 0

@@ -11,7 +11,7 @@ use Rattle.dom_semantics.specs.declared.listeners.Listener.{Listener}
 use Rattle.dom_semantics.specs.Events.{event_at}
 use Rattle.dom_semantics.specs.Listeners.{add_refusal, listener_added, listener_removed}
 use Rattle.dom_semantics.specs.Stage.{Stage, with_listeners, unfinished_dispatches, turn_dispatches, NESTED_DISPATCH_LIMIT, DISPATCH_LIMIT}
-use Rattle.dom_semantics.specs.Reply.{Row, does, unless}
+use Rattle.dom_semantics.specs.Reply.{Row, does, unless_refused}
 
 abbrev pub listener_of : Actor → Thing → List ℕ → ℕ → Bool → Listener
 listener_of i target kind place capture = record { owner = i; target = target; kind = kind; callback = place; capture = capture }
@@ -19,7 +19,7 @@ listener_of i target kind place capture = record { owner = i; target = target; k
 -- addEventListener: no callback does nothing
 abbrev pub add_listener_row : Row
 add_listener_row given s i thing (Str kind ∷ (Cell owner place shape waived ∷ (BoolValue capture ∷ []))) =
-    unless (add_refusal s.listeners (listener_of i thing kind place capture)) s
+    unless_refused (add_refusal s.listeners (listener_of i thing kind place capture)) s
     (does (with_listeners s (listener_added s.listeners (listener_of i thing kind place capture))))
 add_listener_row given s i thing arguments = does s
 
@@ -43,7 +43,7 @@ dispatch_refusal s i event = if (event_at s.events event).in_dispatch || not (is
 
 -- a dispatch that isn't refused is no request: it is a mark of its own
 abbrev pub dispatch_row : Row
-dispatch_row given s i thing (ThingValue event ∷ []) = unless (dispatch_refusal s i event.number) s None
+dispatch_row given s i thing (ThingValue event ∷ []) = unless_refused (dispatch_refusal s i event.number) s None
 dispatch_row given s i thing arguments = None
 
 -- the rows of this interface

@@ -6,7 +6,7 @@ use Rattle.door.specs.declared.members.Member.TheVariants as m
 use Rattle.dom_semantics.specs.Things.{the_window, the_document}
 use Rattle.dom_semantics.specs.Stage.{with_timers}
 use Rattle.dom_semantics.specs.Timers.{set_refusal, timer_set, timer_cleared, next_number, delay_of}
-use Rattle.dom_semantics.specs.Reply.{Row, gives, gives_number, does, unless}
+use Rattle.dom_semantics.specs.Reply.{Row, gives, gives_number, does, unless_refused}
 
 -- document
 abbrev pub document_row : Row
@@ -19,7 +19,7 @@ window_row given s i thing arguments = gives (ThingValue the_window) s
 -- setTimeout: the timer's number (HTML, 8.6 Timers)
 abbrev pub set_timeout_row : Row
 set_timeout_row given s i thing (Cell owner place shape waived ∷ (delay ∷ [])) =
-    unless (set_refusal s.timers i) s (gives_number (next_number s.timers i) (with_timers s (timer_set s.timers i (delay_of delay) place)))
+    unless_refused (set_refusal s.timers i) s (gives_number (next_number s.timers i) (with_timers s (timer_set s.timers i (delay_of delay) place)))
 set_timeout_row given s i thing arguments = None
 
 -- clearTimeout: a wrong number clears nothing

@@ -23,7 +23,7 @@ use Rattle.dom_semantics.specs.Bounds.{is_short}
 use Rattle.dom_semantics.specs.Fits.{is_script}
 use Rattle.dom_semantics.specs.Forest.{Forest}
 use Rattle.dom_semantics.specs.Grants.{grants_of, is_granted}
-use Rattle.dom_semantics.specs.Reply.{IsAnswered, Reply, does, gives_text, unless}
+use Rattle.dom_semantics.specs.Reply.{IsAnswered, Reply, does, gives_text, unless_refused}
 use Rattle.dom_semantics.specs.Stage.{Origin, Stage, has_node, with_nodes}
 use Rattle.dom_semantics.specs.StageOf.{is_refusal, next_or}
 use Rattle.dom_semantics.specs.Things.{is_thing, the_document, the_window, thing_of}
@@ -101,7 +101,7 @@ document_replies origin s i answer e =
     stays s i answer (ValueAnswer (ThingValue the_document)) _ (row_replies origin s i WindowDocument the_window [] refl (for_all (grants_of origin i)) refl) e
 
 title_by : (s : Stage) (i : Actor) (answer : Answer) (text : List ℕ) (b : Bool) → answer ≡ (if b then Throw TooLong else ValueAnswer (Str text))
-    → Answers s (unless (if b then Some TooLong else None) s (gives_text text s)) answer s.nodes i
+    → Answers s (unless_refused (if b then Some TooLong else None) s (gives_text text s)) answer s.nodes i
 title_by s i answer text true e = record { answered = e; next = rw e refl; grows = same_grows i s.nodes s.nodes refl }
 title_by s i answer text false e = record { answered = e; next = rw e refl; grows = same_grows i s.nodes s.nodes refl }
 
@@ -118,7 +118,7 @@ written None f g = g
 written (Some reason) f g = f
 
 written_by : (s : Stage) (i : Actor) (answer : Answer) (g : Forest) (reason : Option ErrorKind) → Grows i s.nodes g → answer ≡ refused_or reason (ValueAnswer Undefined)
-    → Answers s (unless reason s (does (with_nodes s g))) answer (written reason s.nodes g) i
+    → Answers s (unless_refused reason s (does (with_nodes s g))) answer (written reason s.nodes g) i
 written_by s i answer g None grows e = record { answered = e; next = rw e refl; grows = grows }
 written_by s i answer g (Some reason) grows e = record { answered = e; next = rw e refl; grows = same_grows i s.nodes s.nodes refl }
 

@@ -22,7 +22,7 @@ use Rattle.dom_semantics.specs.Changes.{create_refusal, created, insert_refusal,
 use Rattle.dom_semantics.specs.Fits.{are_of_sorts, is_request, signature}
 use Rattle.dom_semantics.specs.Grants.{is_granted}
 use Rattle.dom_semantics.specs.Names.{is_tag, lower}
-use Rattle.dom_semantics.specs.Reply.{Reply, gives, unless}
+use Rattle.dom_semantics.specs.Reply.{Reply, gives, unless_refused}
 use Rattle.dom_semantics.specs.Stage.{Origin, Stage, has_node, has_thing, with_nodes}
 use Rattle.dom_semantics.specs.StageOf.{built, next_or}
 use Rattle.dom_semantics.specs.Things.{is_node_kind, thing_of}
@@ -123,10 +123,10 @@ short_of t h = within (utf8_len t) TEXT_LIMIT (short_text t h)
 
 -- ---- the rows
 
-unless_none : (reason : Option ErrorKind) (s : Stage) (value : Value) (next : Stage) → reason ≡ None → Comes (unless reason s (gives value next)) next
+unless_none : (reason : Option ErrorKind) (s : Stage) (value : Value) (next : Stage) → reason ≡ None → Comes (unless_refused reason s (gives value next)) next
 unless_none reason s value next e = rw e refl
 
-unless_either : (reason : Option ErrorKind) (s : Stage) (value : Value) (f : Forest) → Comes (unless reason s (gives value (with_nodes s f))) (with_nodes s (unless_told reason s.nodes f))
+unless_either : (reason : Option ErrorKind) (s : Stage) (value : Value) (f : Forest) → Comes (unless_refused reason s (gives value (with_nodes s f))) (with_nodes s (unless_told reason s.nodes f))
 unless_either None s value f = refl
 unless_either (Some reason) s value f = refl
 
