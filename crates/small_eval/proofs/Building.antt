@@ -21,7 +21,7 @@ use Rattle.dom_semantics.specs.Forest.{DEPTH_LIMIT, Form, Forest, NODE_LIMIT, No
 use Rattle.dom_semantics.specs.Changes.{create_refusal, created, insert_refusal, inserted, is_empty, with_attribute}
 use Rattle.solo_model.specs.Closed.{Setups}
 use Rattle.solo_model.specs.Lawful.{AreBuilds, is_node, own_nodes, placed, placed_request}
-use Rattle.solo_model.specs.Stage.{HasRow, Stage, built, stage_from, stage_of, start, turned}
+use Rattle.solo_model.specs.Stage.{HasRow, Stage, built, stage_from, stage_of, start, turned, unless_refused}
 use Rattle.small_meaning.specs.Rows.{beginning}
 use Rattle.small_meaning.specs.Reached.{IsWaiting}
 use Rattle.solo_model.specs.Truth.{IsGenuine}
@@ -29,7 +29,7 @@ use Rattle.solo_model.specs.View.{is_actor, met_of, seen_of}
 use Rattle.solo_model.proofs.Journals.{builds-then, is_other, stage-more, stage_from-append}
 use Rattle.small_meaning.proofs.Reaching.{reached-past}
 use Rattle.small_eval.specs.declared.world.World.{World}
-use Rattle.small_eval.specs.Builds.{HasBuilt, HasRoom, IsMaking, IsRooted, appended, unless_told}
+use Rattle.small_eval.specs.Builds.{HasBuilt, HasRoom, IsMaking, IsRooted, appended}
 use Rattle.small_eval.specs.Continuations.{Adds}
 use Rattle.small_eval.specs.Heads.{IsHeaded}
 use Rattle.small_eval.specs.Idle.{AreIdle}
@@ -173,7 +173,7 @@ headed_created f g form e h = subst IsHeaded (sym e) (headed_alike f (created f 
 pub headed_appended : (f g : Forest) (parent child : ℕ) → g ≡ appended f parent child → 3 < parent → 3 < child → IsHeaded f → IsHeaded g
 headed_appended f g parent child e late later h = subst IsHeaded (sym e) (by (insert_refusal f parent child None))
   where
-    by : (r : Option ErrorKind) → IsHeaded (unless_told r f (inserted f parent child None))
+    by : (r : Option ErrorKind) → IsHeaded (unless_refused r f (inserted f parent child None))
     by None = headed_inserted f parent child late later h
     by (Some reason) = h
 

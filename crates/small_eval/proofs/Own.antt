@@ -8,8 +8,9 @@ use Rattle.dom_semantics.specs.Forest.{Forest, Node, NODE_LIMIT, made_by, node_a
 use Rattle.dom_semantics.specs.Changes.{create_refusal, insert_refusal, inserted, removed, with_attribute}
 use Rattle.dom_tree.proofs.NodeLemmas.{length-removed, made_by-append, made_by-one}
 use Rattle.solo_model.specs.Lawful.{numbers_from, own_nodes}
+use Rattle.solo_model.specs.Stage.{unless_refused}
 use Rattle.door.specs.declared.limits.TheConstants.{NODE_LIMIT as MOST_NODES}
-use Rattle.small_eval.specs.Builds.{appended, unless_told}
+use Rattle.small_eval.specs.Builds.{appended}
 
 -- a node's number first, where it is the maker's
 abbrev first : Bool → ℕ → List ℕ → List ℕ
@@ -31,14 +32,14 @@ own-inserted f parent c = numbers-set 0 the_host (removed f c) parent _ refl ∙
 pub own-appended : (f : Forest) (parent c : ℕ) → own_nodes (appended f parent c) ≡ own_nodes f
 own-appended f parent c = by (insert_refusal f parent c None)
   where
-    by : (r : Option _) → own_nodes (unless_told r f (inserted f parent c None)) ≡ own_nodes f
+    by : (r : Option _) → own_nodes (unless_refused r f (inserted f parent c None)) ≡ own_nodes f
     by None = own-inserted f parent c
     by (Some reason) = refl
 
 pub long-appended : (f : Forest) (parent c : ℕ) → length (appended f parent c) ≡ length f
 long-appended f parent c = by (insert_refusal f parent c None)
   where
-    by : (r : Option _) → length (unless_told r f (inserted f parent c None)) ≡ length f
+    by : (r : Option _) → length (unless_refused r f (inserted f parent c None)) ≡ length f
     by None = simp length-set (length-removed f c)
     by (Some reason) = refl
 

@@ -1,13 +1,12 @@
 -- How a world grows by what the host makes.
 use Rattle.std.specs.Prelude.{◌≡◌, ◌≤◌, ◌<◌, ◌+◌, ◌^◌, ℕ, List, ◌∷◌, ◌++◌, length, Option, Some, None}
-use Rattle.door.specs.declared.requests.ErrorKind.{ErrorKind}
 use Rattle.door.specs.declared.requests.Request.{Request}
 use Rattle.door.specs.declared.marks.Mark.{Mark}
 use Rattle.dom_semantics.specs.Forest.{Form, Forest, the_host}
 use Rattle.dom_semantics.specs.Changes.{create_refusal, created, insert_refusal, inserted}
 use Rattle.solo_model.specs.Closed.{Setups}
 use Rattle.solo_model.specs.Lawful.{AreBuilds}
-use Rattle.solo_model.specs.Stage.{Stage, built, with_nodes}
+use Rattle.solo_model.specs.Stage.{Stage, built, unless_refused, with_nodes}
 use Rattle.door.specs.declared.limits.TheConstants.{NODE_LIMIT}
 use Rattle.small_eval.specs.declared.world.World.{World}
 use Rattle.small_eval.specs.Continuations.{Adds}
@@ -38,9 +37,5 @@ abbrev pub IsMaking : Request → Form → Type 0
 IsMaking request form = (s : Stage) → create_refusal s.nodes the_host ≡ None → built s request ≡ with_nodes s (created s.nodes the_host form)
 
 -- the nodes after the child is put last in the parent, and as they were where that is refused
-abbrev pub unless_told : Option ErrorKind → Forest → Forest → Forest
-unless_told None f next = next
-unless_told (Some reason) f next = f
-
 abbrev pub appended : Forest → ℕ → ℕ → Forest
-appended f parent child = unless_told (insert_refusal f parent child None) f (inserted f parent child None)
+appended f parent child = unless_refused (insert_refusal f parent child None) f (inserted f parent child None)

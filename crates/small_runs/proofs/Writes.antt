@@ -27,7 +27,7 @@ use Rattle.dom_semantics.specs.Stage.{Origin, Stage, has_node, has_thing, with_n
 use Rattle.dom_semantics.specs.StageOf.{built, next_or}
 use Rattle.dom_semantics.specs.Things.{is_node_kind, thing_of}
 use Rattle.dom_semantics.specs.Truth.{IsTrueBuild, has_all, reply_of, reply_to, row_of}
-use Rattle.small_eval.specs.Builds.{appended, unless_told}
+use Rattle.small_eval.specs.Builds.{appended}
 use Rattle.small_eval.specs.Pieces.{appends, creates, identifies, writes}
 use Rattle.solo_model.specs.Stage as old
 use Rattle.small_runs.proofs.Made.{made, made-inserted}
@@ -126,7 +126,7 @@ short_of t h = within (utf8_len t) TEXT_LIMIT (short_text t h)
 unless_none : (reason : Option ErrorKind) (s : Stage) (value : Value) (next : Stage) → reason ≡ None → Comes (unless_refused reason s (gives value next)) next
 unless_none reason s value next e = rw e refl
 
-unless_either : (reason : Option ErrorKind) (s : Stage) (value : Value) (f : Forest) → Comes (unless_refused reason s (gives value (with_nodes s f))) (with_nodes s (unless_told reason s.nodes f))
+unless_either : (reason : Option ErrorKind) (s : Stage) (value : Value) (f : Forest) → Comes (unless_refused reason s (gives value (with_nodes s f))) (with_nodes s (old.unless_refused reason s.nodes f))
 unless_either None s value f = refl
 unless_either (Some reason) s value f = refl
 
@@ -186,13 +186,13 @@ makes_child origin s kind n child m node other there known =
 pub old_appended : (s : old.Stage) (kind : Kind) (n : ℕ) (child : Kind) (m : ℕ) → (old.built s (appends (thing_of kind n) (thing_of child m))).nodes ≡ appended s.nodes n m
 old_appended s kind n child m = by (insert_refusal s.nodes n m None)
   where
-    by : (reason : Option ErrorKind) → (old.unless_refused reason s (old.with_nodes s (inserted s.nodes n m None))).nodes ≡ unless_told reason s.nodes (inserted s.nodes n m None)
+    by : (reason : Option ErrorKind) → (old.unless_refused reason s (old.with_nodes s (inserted s.nodes n m None))).nodes ≡ old.unless_refused reason s.nodes (inserted s.nodes n m None)
     by None = refl
     by (Some reason) = refl
 
 pub made-appended : (f : Forest) (n m : ℕ) → made (appended f n m) ≡ made f
 made-appended f n m = by (insert_refusal f n m None)
   where
-    by : (reason : Option ErrorKind) → made (unless_told reason f (inserted f n m None)) ≡ made f
+    by : (reason : Option ErrorKind) → made (old.unless_refused reason f (inserted f n m None)) ≡ made f
     by None = made-inserted f n m None
     by (Some reason) = refl

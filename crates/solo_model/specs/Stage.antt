@@ -73,10 +73,10 @@ refusal i s NodeAppendChild thing (ThingValue child ∷ []) = insert_refusal s.n
 refusal i s DocumentSetTitle thing (Str text ∷ []) = title_refusal s.nodes i text
 refusal i s member thing arguments = None
 
--- what a refused request makes of the stage, and another
-abbrev pub unless_refused : Option ErrorKind → Stage → Stage → Stage
-unless_refused None s next = next
-unless_refused (Some reason) s next = s
+-- what was, where a request is refused, and else what comes next
+abbrev pub unless_refused : {A : Type 0} → Option ErrorKind → A → A → A
+unless_refused None was next = next
+unless_refused (Some reason) was next = was
 
 -- the requests by which the host builds: the members that have a row above, with arguments of its shape
 abbrev pub HasRow : Request → Type 0
