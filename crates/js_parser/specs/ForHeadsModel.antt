@@ -19,5 +19,5 @@ abbrev pub for_step : ℕ → ℕ → Inside → Bool → ForStart → Option Ex
 for_step chains left i f a b = optional chains left i s.CloseParen >>= λ c. for_body i f a b c
 
 -- over keys, behind its head
-abbrev pub each_key : Inside → Bool → ForTarget → Expr → Reader Stmt
-each_key i f a b = i.stmt f true >>= λ x. pure (st.ForIn a b x)
+abbrev pub for_in_body : Inside → Bool → ForTarget → Expr → Reader Stmt
+for_in_body i f a b = i.stmt f true >>= λ x. pure (st.ForIn a b x)

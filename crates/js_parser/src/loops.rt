@@ -93,7 +93,7 @@ impl<
     }
 
     /// Parses the rest of a `for`-`in` statement after its head.
-    pub fn each_key(
+    pub fn for_in_body(
         &self,
         tokens: &mut Cursor<'_>,
         in_function: bool,
@@ -101,7 +101,7 @@ impl<
         object: Boxed<Expr>,
     ) -> Result<Stmt, Failed>
         requires { ⟦<Self as Nests>⟧.nests self.now }
-        ensures { Reads (heads.each_key (spec.within CHAIN_LIMIT self.now.left) in_function target object tokens.old) result tokens.new }
+        ensures { Reads (heads.for_in_body (spec.within CHAIN_LIMIT self.now.left) in_function target object tokens.old) result tokens.new }
     {
         let body = self.stmt(tokens, in_function, true)?;
         let body = Boxed::new(self.alloc, body)?;
@@ -121,7 +121,7 @@ impl<
     {
         let object = self.assign(tokens, true)?;
         tokens.expect(Symbol::CloseParen)?;
-        self.each_key(tokens, in_function, target, object)
+        self.for_in_body(tokens, in_function, target, object)
     }
 
     /// Parses the rest of a `for` statement after the first declaration of its head.
@@ -197,10 +197,10 @@ impl<
     }
 
     /// Parses the rest of a `for` statement; the keyword is already consumed.
-    #[tactic(auto, unfolding(js_reference_parser::specs::StatementsModel::each_turn))]
-    pub fn each_turn(&self, tokens: &mut Cursor<'_>, in_function: bool) -> Result<Stmt, Failed>
+    #[tactic(auto, unfolding(js_reference_parser::specs::StatementsModel::for_statement))]
+    pub fn for_statement(&self, tokens: &mut Cursor<'_>, in_function: bool) -> Result<Stmt, Failed>
         requires { ⟦<Self as Nests>⟧.nests self.now }
-        ensures { Reads (spec.each_turn CHAIN_LIMIT self.now.left (spec.within CHAIN_LIMIT self.now.left) in_function tokens.old) result tokens.new }
+        ensures { Reads (spec.for_statement CHAIN_LIMIT self.now.left (spec.within CHAIN_LIMIT self.now.left) in_function tokens.old) result tokens.new }
     {
         tokens.expect(Symbol::OpenParen)?;
         self.for_head(tokens, in_function)

@@ -99,7 +99,7 @@ impl<
             return self.while_statement(tokens, in_function);
         }
         if let Some(_) = tokens.eat(Symbol::For) {
-            return self.each_turn(tokens, in_function);
+            return self.for_statement(tokens, in_function);
         }
         self.words_from(tokens, in_function, in_loop)
     }

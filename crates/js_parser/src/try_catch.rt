@@ -15,8 +15,8 @@ impl<
     S: Fn(Global, &mut Cursor<'_>, usize, Form, bool, bool) -> Result<Stmt, Failed>,
 > Level<E, M, S> {
     /// Parses the rest of a `try` statement after its `finally`.
-    #[tactic(auto, unfolding(js_reference_parser::specs::StatementsModel::finished))]
-    pub fn finished(
+    #[tactic(auto, unfolding(js_reference_parser::specs::StatementsModel::after_finally))]
+    pub fn after_finally(
         &self,
         tokens: &mut Cursor<'_>,
         in_function: bool,
@@ -25,7 +25,7 @@ impl<
         catch: Option<Catch>,
     ) -> Result<Stmt, Failed>
         requires { ⟦<Self as Nests>⟧.nests self.now }
-        ensures { Reads (spec.finished (spec.within CHAIN_LIMIT self.now.left) in_function in_loop tried catch tokens.old) result tokens.new }
+        ensures { Reads (spec.after_finally (spec.within CHAIN_LIMIT self.now.left) in_function in_loop tried catch tokens.old) result tokens.new }
     {
         let last = self.block_below(tokens, in_function, in_loop)?;
         let last = Boxed::new(self.alloc, last)?;
@@ -33,8 +33,8 @@ impl<
     }
 
     /// Parses the rest of a `try` statement after the block of its `catch`.
-    #[tactic(auto, unfolding(js_reference_parser::specs::StatementsModel::handled))]
-    pub fn handled(
+    #[tactic(auto, unfolding(js_reference_parser::specs::StatementsModel::after_catch))]
+    pub fn after_catch(
         &self,
         tokens: &mut Cursor<'_>,
         in_function: bool,
@@ -43,17 +43,17 @@ impl<
         catch: Catch,
     ) -> Result<Stmt, Failed>
         requires { ⟦<Self as Nests>⟧.nests self.now }
-        ensures { Reads (spec.handled (spec.within CHAIN_LIMIT self.now.left) in_function in_loop tried catch tokens.old) result tokens.new }
+        ensures { Reads (spec.after_catch (spec.within CHAIN_LIMIT self.now.left) in_function in_loop tried catch tokens.old) result tokens.new }
     {
         if let Some(_) = tokens.eat(Symbol::Finally) {
-            return self.finished(tokens, in_function, in_loop, tried, Some(catch));
+            return self.after_finally(tokens, in_function, in_loop, tried, Some(catch));
         }
         Ok(Stmt::Try(tried, Some(catch), None))
     }
 
     /// Parses the rest of a `try` statement after its `catch`.
-    #[tactic(auto, unfolding(js_reference_parser::specs::StatementsModel::catch_))]
-    pub fn catch(
+    #[tactic(auto, unfolding(js_reference_parser::specs::StatementsModel::catch_clause))]
+    pub fn catch_clause(
         &self,
         tokens: &mut Cursor<'_>,
         in_function: bool,
@@ -61,19 +61,19 @@ impl<
         tried: Boxed<Stmt>,
     ) -> Result<Stmt, Failed>
         requires { ⟦<Self as Nests>⟧.nests self.now }
-        ensures { Reads (spec.catch_ (spec.within CHAIN_LIMIT self.now.left) in_function in_loop tried tokens.old) result tokens.new }
+        ensures { Reads (spec.catch_clause (spec.within CHAIN_LIMIT self.now.left) in_function in_loop tried tokens.old) result tokens.new }
     {
         tokens.expect(Symbol::OpenParen)?;
         let name = name(tokens)?;
         tokens.expect(Symbol::CloseParen)?;
         let block = self.block_below(tokens, in_function, in_loop)?;
         let block = Boxed::new(self.alloc, block)?;
-        self.handled(tokens, in_function, in_loop, tried, Catch { name, block })
+        self.after_catch(tokens, in_function, in_loop, tried, Catch { name, block })
     }
 
     /// Parses the rest of a `try` statement after its block.
-    #[tactic(auto, unfolding(js_reference_parser::specs::StatementsModel::handlers))]
-    pub fn handlers(
+    #[tactic(auto, unfolding(js_reference_parser::specs::StatementsModel::catch_or_finally))]
+    pub fn catch_or_finally(
         &self,
         tokens: &mut Cursor<'_>,
         in_function: bool,
@@ -81,13 +81,13 @@ impl<
         tried: Boxed<Stmt>,
     ) -> Result<Stmt, Failed>
         requires { ⟦<Self as Nests>⟧.nests self.now }
-        ensures { Reads (spec.handlers (spec.within CHAIN_LIMIT self.now.left) in_function in_loop tried tokens.old) result tokens.new }
+        ensures { Reads (spec.catch_or_finally (spec.within CHAIN_LIMIT self.now.left) in_function in_loop tried tokens.old) result tokens.new }
     {
         if let Some(_) = tokens.eat(Symbol::Catch) {
-            return self.catch(tokens, in_function, in_loop, tried);
+            return self.catch_clause(tokens, in_function, in_loop, tried);
         }
         if let Some(_) = tokens.eat(Symbol::Finally) {
-            return self.finished(tokens, in_function, in_loop, tried, None);
+            return self.after_finally(tokens, in_function, in_loop, tried, None);
         }
         Err(Failed::Fault(ParseKind::Unexpected))
     }
@@ -105,6 +105,6 @@ impl<
     {
         let tried = self.block_below(tokens, in_function, in_loop)?;
         let tried = Boxed::new(self.alloc, tried)?;
-        self.handlers(tokens, in_function, in_loop, tried)
+        self.catch_or_finally(tokens, in_function, in_loop, tried)
     }
 }

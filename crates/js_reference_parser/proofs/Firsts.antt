@@ -27,7 +27,7 @@ use Rattle.js_reference_parser.proofs.Forms.{Inner}
 use Rattle.js_combinators.proofs.Laws.{sane_pure}
 use Rattle.js_combinators.proofs.Begin.{begins_on}
 use Rattle.js_combinators.proofs.More.{begins_up}
-use Rattle.js_reference_parser.specs.StatementsModel.{ended, end_of_jump, block_rest, variables, function_declared, if_statement, while_statement, each_turn, return_statement, throw, try_statement, is_where, plain_statement, statement, begins_stmt}
+use Rattle.js_reference_parser.specs.StatementsModel.{ended, end_of_jump, block_rest, variables, function_declared, if_statement, while_statement, for_statement, return_statement, throw, try_statement, is_where, plain_statement, statement, begins_stmt}
 use Rattle.js_reference_parser.proofs.Stmts as stmts
 
 module _ (p : Bool) (left left' : ℕ) (P : Parts) (Applied : Spelling Expr) (i i' : Inside) (inner : Inner p left left' P Applied i i') (chains chains' : ℕ) (lt : p ≡ true → chains + 2 ≤ chains') (up : positive left' ≡ true) where
@@ -117,7 +117,7 @@ module _ (p : Bool) (left left' : ℕ) (P : Parts) (Applied : Spelling Expr) (i 
       (begins_up ender left' up (is s.Function) _ (λ t. function_declared i') _ (λ t h. wide (stmts.good_function p left left' P Applied i i' inner chains chains' lt {F = ender}))
       (begins_up ender left' up (is s.If) _ (λ t. if_statement chains' left' i' f l) _ (λ t h. wide (stmts.good_if_statement p left left' P Applied i i' inner chains chains' lt f l))
       (begins_up ender left' up (is s.While) _ (λ t. while_statement chains' left' i' f) _ (λ t h. wide (stmts.good_while_statement p left left' P Applied i i' inner chains chains' lt f))
-      (begins_up ender left' up (is s.For) _ (λ t. each_turn chains' left' i' f) _ (λ t h. wide (stmts.good_loop p left left' P Applied i i' inner chains chains' lt f))
+      (begins_up ender left' up (is s.For) _ (λ t. for_statement chains' left' i' f) _ (λ t h. wide (stmts.good_loop p left left' P Applied i i' inner chains chains' lt f))
       (begins_on (May ender) (is_where s.Break l) _ (λ t. end_of_jump >>= λ u. pure st.Break) _ (λ t h. always (halted st.Break))
       (begins_on (May ender) (is_where s.Continue l) _ (λ t. end_of_jump >>= λ u. pure st.Continue) _ (λ t h. always (halted st.Continue))
       (begins_on (May ender) (is_where s.Return f) _ (λ t. return_statement chains' left' i') _ (λ t h. always (stmts.good_return_statement p left left' P Applied i i' inner chains chains' lt))

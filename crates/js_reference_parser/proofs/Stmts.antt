@@ -30,7 +30,7 @@ use Rattle.js_reference_parser.proofs.Lists.{closers, closer, ender, good_others
 use Rattle.js_reference_parser.proofs.Forms as forms
 use Rattle.js_reference_parser.proofs.Forms.{Inner}
 use Rattle.js_combinators.proofs.More.{good_other}
-use Rattle.js_reference_parser.specs.StatementsModel.{ends, ended, end_of_jump, block_rest, block, declared, variables, function_declared, condition, else_clause, if_statement, while_statement, optional, for_rest, for_in, for_variables, for_variable, is_in, for_expression, for_head, each_turn, return_statement, throw, finished, handled, catch_, handlers, try_statement, is_where, plain_statement, statement}
+use Rattle.js_reference_parser.specs.StatementsModel.{ends, ended, end_of_jump, block_rest, block, declared, variables, function_declared, condition, else_clause, if_statement, while_statement, optional, for_rest, for_in, for_variables, for_variable, is_in, for_expression, for_head, for_statement, return_statement, throw, after_finally, after_catch, catch_clause, catch_or_finally, try_statement, is_where, plain_statement, statement}
 use Rattle.js_reference_parser.proofs.Lists.{Next, Further, no_further, further, separated_to, of_separated, further_from}
 
 or_true : (a b : Bool) → a ≡ true → (a || b) ≡ true
@@ -261,8 +261,8 @@ module _ (p : Bool) (left left' : ℕ) (P : Parts) (Applied : Spelling Expr) (i 
       (λ e. opens_took ender (is s.Semicolon) (λ t. for_rest chains left i f start.Nothing) (on (is s.Var) (λ t. for_variable chains left i f) (for_expression chains left i f)) semicolon is_semicolon ((good_for_rest f start.Nothing).laws e).opens)
       (λ e. opens_took ender (is s.Semicolon) (λ t. for_rest chains' left' i' f start.Nothing) (on (is s.Var) (λ t. for_variable chains' left' i' f) (for_expression chains' left' i' f)) semicolon is_semicolon ((good_for_rest f start.Nothing).laws_w e).opens)
 
-  pub good_loop : (f : Bool) → Good p (positive left) (positive left') true None ender (Both (Taken s.OpenParen) (λ u. ForHead f)) (each_turn chains left i f) (each_turn chains' left' i' f)
-  unfolding each_turn
+  pub good_loop : (f : Bool) → Good p (positive left) (positive left') true None ender (Both (Taken s.OpenParen) (λ u. ForHead f)) (for_statement chains left i f) (for_statement chains' left' i' f)
+  unfolding for_statement
   good_loop f = good_then (good_expect {E = None} {F = None} s.OpenParen open_token is_open refl refl) (λ u. good_for_head f) refl
 
   -- ---- return, throw, try
@@ -309,29 +309,29 @@ module _ (p : Bool) (left left' : ℕ) (P : Parts) (Applied : Spelling Expr) (i 
   abbrev caught : List ℕ → Stmt → Catch
   caught n b = record { name = n; block = b }
 
-  good_final : (f l : Bool) (x : Stmt) (c : Option Catch) → Good p (positive left) (positive left') true None ender (Both (P.block f l) (λ y. Same (st.Try x c (Some y)))) (finished i f l x c) (finished i' f l x c)
-  unfolding finished
-  good_final f l x c = good_then (inner.block f l) (λ y. good_pure {E = None} (st.Try x c (Some y)) refl) refl
+  good_after_finally : (f l : Bool) (x : Stmt) (c : Option Catch) → Good p (positive left) (positive left') true None ender (Both (P.block f l) (λ y. Same (st.Try x c (Some y)))) (after_finally i f l x c) (after_finally i' f l x c)
+  unfolding after_finally
+  good_after_finally f l x c = good_then (inner.block f l) (λ y. good_pure {E = None} (st.Try x c (Some y)) refl) refl
 
-  abbrev Handled : Bool → Bool → Stmt → Catch → Spelling Stmt
-  Handled f l x c = On (is s.Finally) (λ t. Both (P.block f l) (λ y. Same (st.Try x (Some c) (Some y)))) (Same (st.Try x (Some c) None))
+  abbrev AfterCatch : Bool → Bool → Stmt → Catch → Spelling Stmt
+  AfterCatch f l x c = On (is s.Finally) (λ t. Both (P.block f l) (λ y. Same (st.Try x (Some c) (Some y)))) (Same (st.Try x (Some c) None))
 
-  good_handled : (f l : Bool) (x : Stmt) (c : Catch) → Good p (positive left) (positive left') false None ender (Handled f l x c) (handled i f l x c) (handled i' f l x c)
-  unfolding handled
-  good_handled f l x c = good_option (s.Finally ∷ []) (λ t h. h) refl refl refl (λ t h. good_final f l x (Some c)) (st.Try x (Some c) None)
+  good_after_catch : (f l : Bool) (x : Stmt) (c : Catch) → Good p (positive left) (positive left') false None ender (AfterCatch f l x c) (after_catch i f l x c) (after_catch i' f l x c)
+  unfolding after_catch
+  good_after_catch f l x c = good_option (s.Finally ∷ []) (λ t h. h) refl refl refl (λ t h. good_after_finally f l x (Some c)) (st.Try x (Some c) None)
 
   abbrev CatchRest : Bool → Bool → Stmt → Spelling Stmt
-  CatchRest f l x = Both (Taken s.OpenParen) (λ u. Both (Closed s.CloseParen Name) (λ n. Both (P.block f l) (λ b. Handled f l x (caught n b))))
+  CatchRest f l x = Both (Taken s.OpenParen) (λ u. Both (Closed s.CloseParen Name) (λ n. Both (P.block f l) (λ b. AfterCatch f l x (caught n b))))
 
-  good_catch : (f l : Bool) (x : Stmt) → Good p (positive left) (positive left') true None ender (CatchRest f l x) (catch_ i f l x) (catch_ i' f l x)
-  unfolding catch_
-  good_catch f l x = good_then (good_expect {E = None} {F = None} s.OpenParen open_token is_open refl refl) (λ u. good_then (good_closed {G = None} s.CloseParen close is_close refl refl (good_name {F = closer})) (λ n. good_then (inner.block f l) (λ b. good_handled f l x (caught n b)) refl) refl) refl
+  good_catch : (f l : Bool) (x : Stmt) → Good p (positive left) (positive left') true None ender (CatchRest f l x) (catch_clause i f l x) (catch_clause i' f l x)
+  unfolding catch_clause
+  good_catch f l x = good_then (good_expect {E = None} {F = None} s.OpenParen open_token is_open refl refl) (λ u. good_then (good_closed {G = None} s.CloseParen close is_close refl refl (good_name {F = closer})) (λ n. good_then (inner.block f l) (λ b. good_after_catch f l x (caught n b)) refl) refl) refl
 
-  abbrev HandlersOf : Bool → Bool → Stmt → Spelling Stmt
-  HandlersOf f l x = On (is s.Catch) (λ t. CatchRest f l x) (On (is s.Finally) (λ t. Both (P.block f l) (λ y. Same (st.Try x None (Some y)))) Nothing)
+  abbrev CatchOrFinally : Bool → Bool → Stmt → Spelling Stmt
+  CatchOrFinally f l x = On (is s.Catch) (λ t. CatchRest f l x) (On (is s.Finally) (λ t. Both (P.block f l) (λ y. Same (st.Try x None (Some y)))) Nothing)
 
-  handlers_opens : (r : Reader Stmt) (s' : Token → Reader Stmt) → Opens (May None) (May ender) r → Opens (May None) (May ender) (on (is s.Catch) s' (on (is s.Finally) (λ t. r) (refuse Unexpected)))
-  handlers_opens r s' o = record {
+  catch_or_finally_opens : (r : Reader Stmt) (s' : Token → Reader Stmt) → Opens (May None) (May ender) r → Opens (May None) (May ender) (on (is s.Catch) s' (on (is s.Finally) (λ t. r) (refuse Unexpected)))
+  catch_or_finally_opens r s' o = record {
     more = finally_token ∷ o.more;
     value = o.value;
     before = λ rest m. tt;
@@ -339,15 +339,15 @@ module _ (p : Bool) (left left' : ℕ) (P : Parts) (Applied : Spelling Expr) (i 
         ∙ ap (λ b. cond b (r (o.more ++ rest)) (Err (Unexpected, finally_token ∷ (o.more ++ rest)))) is_finally ∙ o.reads rest m;
   }
 
-  good_handlers : (f l : Bool) (x : Stmt) → Good p (positive left) (positive left') true None ender (HandlersOf f l x) (handlers i f l x) (handlers i' f l x)
-  unfolding handlers
-  good_handlers f l x = good_of (part_on (s.Catch ∷ []) (λ t h. h) refl refl (λ t h. good_catch f l x) (part_on (s.Finally ∷ []) (λ t h. h) refl refl (λ t h. good_final f l x None) part_refuse))
-      (λ e. handlers_opens (finished i f l x None) (λ t. catch_ i f l x) ((good_final f l x None).laws e).opens)
-      (λ e. handlers_opens (finished i' f l x None) (λ t. catch_ i' f l x) ((good_final f l x None).laws_w e).opens)
+  good_catch_or_finally : (f l : Bool) (x : Stmt) → Good p (positive left) (positive left') true None ender (CatchOrFinally f l x) (catch_or_finally i f l x) (catch_or_finally i' f l x)
+  unfolding catch_or_finally
+  good_catch_or_finally f l x = good_of (part_on (s.Catch ∷ []) (λ t h. h) refl refl (λ t h. good_catch f l x) (part_on (s.Finally ∷ []) (λ t h. h) refl refl (λ t h. good_after_finally f l x None) part_refuse))
+      (λ e. catch_or_finally_opens (after_finally i f l x None) (λ t. catch_clause i f l x) ((good_after_finally f l x None).laws e).opens)
+      (λ e. catch_or_finally_opens (after_finally i' f l x None) (λ t. catch_clause i' f l x) ((good_after_finally f l x None).laws_w e).opens)
 
-  pub good_try : (f l : Bool) → Good p (positive left) (positive left') true None ender (Both (P.block f l) (λ x. HandlersOf f l x)) (try_statement i f l) (try_statement i' f l)
+  pub good_try : (f l : Bool) → Good p (positive left) (positive left') true None ender (Both (P.block f l) (λ x. CatchOrFinally f l x)) (try_statement i f l) (try_statement i' f l)
   unfolding try_statement
-  good_try f l = good_then (inner.block f l) (λ x. good_handlers f l x) refl
+  good_try f l = good_then (inner.block f l) (λ x. good_catch_or_finally f l x) refl
 
   -- ---- statements
 
@@ -370,7 +370,7 @@ module _ (p : Bool) (left left' : ℕ) (P : Parts) (Applied : Spelling Expr) (i 
       (On (is_where s.Continue l) (λ t. Word (λ u. st.Continue))
       (On (is_where s.Return f) (λ t. Answer)
       (On (is s.Throw) (λ t. Throw)
-      (On (is s.Try) (Above left (λ t. Both (P.block f l) (λ x. HandlersOf f l x)))
+      (On (is s.Try) (Above left (λ t. Both (P.block f l) (λ x. CatchOrFinally f l x)))
       Plain))))))))))))
 
   abbrev Stated : Bool → Bool → Spelling Stmt
@@ -386,7 +386,7 @@ module _ (p : Bool) (left left' : ℕ) (P : Parts) (Applied : Spelling Expr) (i 
   for_to f l t z h k x us rest (passed h1 (passed h2 (both {a = a} q (took {t = w} d (both (closed_by r j) (both y e)))))) = let m = and_parts (is s.In w) (is_target a) d in made (Stated f l) e (g.for_in h k (g.expression q m.1 m.0) r j y)
   for_to f l t z h k x us rest (passed h1 (passed h2 (both q (passed h3 (both (taken w) (both b (both c (both y e)))))))) = made (Stated f l) e (g.for_statement h k (g.expression q w) b c y)
 
-  try_to : (f l : Bool) (t : Token) → is s.Try t ≡ true → (x z : Stmt) (us mid rest : Tokens) → P.block f l x us mid → HandlersOf f l x z mid rest → Stated f l z (t ∷ us) rest
+  try_to : (f l : Bool) (t : Token) → is s.Try t ≡ true → (x z : Stmt) (us mid rest : Tokens) → P.block f l x us mid → CatchOrFinally f l x z mid rest → Stated f l z (t ∷ us) rest
   try_to f l t h x z us mid rest q (took c (both (taken k) (both (closed_by (is_a_name n) j) (both b (took v (both y e)))))) = made (Stated f l) e (g.try_statement h q (g.catch_finally c k n j b v y))
   try_to f l t h x z us mid rest q (took c (both (taken k) (both (closed_by (is_a_name n) j) (both b (passed v e))))) = made (Stated f l) e (g.try_statement h q (g.catch_ c k n j b v))
   try_to f l t h x z us mid rest q (passed c (took v (both y e))) = made (Stated f l) e (g.try_statement h q (g.finally_ v y))
@@ -441,7 +441,7 @@ module _ (p : Bool) (left left' : ℕ) (P : Parts) (Applied : Spelling Expr) (i 
       let y = expr_starts false b us (c ∷ mid) q in
       passed (sees_apart expr_firsts (s.Semicolon ∷ []) refl (next us) y) (passed (sees_apart expr_firsts (s.Var ∷ []) refl (next us) y) (both q (took (and_both (is s.In c) (is_target b) h k) r)))
 
-  handlers_from : (f l : Bool) (x : Stmt) (c : Option Catch) (y : Option Stmt) (ts rest : Tokens) → Handlers P f l c y ts rest → HandlersOf f l x (st.Try x c y) ts rest
+  handlers_from : (f l : Bool) (x : Stmt) (c : Option Catch) (y : Option Stmt) (ts rest : Tokens) → Handlers P f l c y ts rest → CatchOrFinally f l x (st.Try x c y) ts rest
   handlers_from f l x c y ts rest (g.catch_ v k n j b w) = took v (both (taken k) (both (closed_by (is_a_name n) j) (both b (passed w same))))
   handlers_from f l x c y ts rest (g.catch_finally v k n j b w z) = took v (both (taken k) (both (closed_by (is_a_name n) j) (both b (took w (both z same)))))
   handlers_from f l x c y ts rest (g.finally_ {keyword = t} v z) = passed (off s.Finally (s.Catch ∷ []) refl t v) (took v (both z same))
@@ -504,7 +504,7 @@ module _ (p : Bool) (left left' : ℕ) (P : Parts) (Applied : Spelling Expr) (i 
               (begin at (is s.Function) (λ t. function_declared j)
               (begin at (is s.If) (λ t. if_statement n at j f l)
               (begin at (is s.While) (λ t. while_statement n at j f)
-              (begin at (is s.For) (λ t. each_turn n at j f)
+              (begin at (is s.For) (λ t. for_statement n at j f)
               (on (is_where s.Break l) (λ t. end_of_jump >>= λ u. pure st.Break)
               (on (is_where s.Continue l) (λ t. end_of_jump >>= λ u. pure st.Continue)
               (on (is_where s.Return f) (λ t. return_statement n at j)

@@ -102,8 +102,8 @@ for_head chains left i f =
     (on (is s.Var) (λ t. for_variable chains left i f)
     (for_expression chains left i f))
 
-unfoldable pub each_turn : ℕ → ℕ → Inside → Bool → Reader Stmt
-each_turn chains left i f = expect s.OpenParen >>= λ u. for_head chains left i f
+unfoldable pub for_statement : ℕ → ℕ → Inside → Bool → Reader Stmt
+for_statement chains left i f = expect s.OpenParen >>= λ u. for_head chains left i f
 
 -- ---- return, throw, try
 
@@ -116,23 +116,23 @@ unfoldable pub throw : ℕ → ℕ → Inside → Reader Stmt
 throw chains left i = look (sees ends_line) (refuse Unexpected) (assign chains left i true >>= λ a. ended (st.Throw a))
 
 -- the block of a `finally`
-unfoldable pub finished : Inside → Bool → Bool → Stmt → Option Catch → Reader Stmt
-finished i f l x c = i.block f l >>= λ y. pure (st.Try x c (Some y))
+unfoldable pub after_finally : Inside → Bool → Bool → Stmt → Option Catch → Reader Stmt
+after_finally i f l x c = i.block f l >>= λ y. pure (st.Try x c (Some y))
 
-unfoldable pub handled : Inside → Bool → Bool → Stmt → Catch → Reader Stmt
-handled i f l x c = on (is s.Finally) (λ t. finished i f l x (Some c)) (pure (st.Try x (Some c) None))
+unfoldable pub after_catch : Inside → Bool → Bool → Stmt → Catch → Reader Stmt
+after_catch i f l x c = on (is s.Finally) (λ t. after_finally i f l x (Some c)) (pure (st.Try x (Some c) None))
 
-unfoldable pub catch_ : Inside → Bool → Bool → Stmt → Reader Stmt
-catch_ i f l x = expect s.OpenParen >>= λ u. closed s.CloseParen name >>= λ n. i.block f l >>= λ b. handled i f l x (record { name = n; block = b })
+unfoldable pub catch_clause : Inside → Bool → Bool → Stmt → Reader Stmt
+catch_clause i f l x = expect s.OpenParen >>= λ u. closed s.CloseParen name >>= λ n. i.block f l >>= λ b. after_catch i f l x (record { name = n; block = b })
 
-unfoldable pub handlers : Inside → Bool → Bool → Stmt → Reader Stmt
-handlers i f l x =
-    on (is s.Catch) (λ t. catch_ i f l x)
-    (on (is s.Finally) (λ t. finished i f l x None)
+unfoldable pub catch_or_finally : Inside → Bool → Bool → Stmt → Reader Stmt
+catch_or_finally i f l x =
+    on (is s.Catch) (λ t. catch_clause i f l x)
+    (on (is s.Finally) (λ t. after_finally i f l x None)
     (refuse Unexpected))
 
 unfoldable pub try_statement : Inside → Bool → Bool → Reader Stmt
-try_statement i f l = i.block f l >>= λ x. handlers i f l x
+try_statement i f l = i.block f l >>= λ x. catch_or_finally i f l x
 
 -- ---- statements
 
@@ -159,7 +159,7 @@ nested_from chains left i f l =
     begin left (is s.Function) (λ t. function_declared i)
     (begin left (is s.If) (λ t. if_statement chains left i f l)
     (begin left (is s.While) (λ t. while_statement chains left i f)
-    (begin left (is s.For) (λ t. each_turn chains left i f)
+    (begin left (is s.For) (λ t. for_statement chains left i f)
     (words_from chains left i f l))))
 
 unfoldable pub statement : ℕ → ℕ → Inside → Bool → Bool → Reader Stmt
