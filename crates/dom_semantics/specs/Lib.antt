@@ -6,6 +6,7 @@ pub mod DocumentReplies
 pub mod DocumentTree
 pub mod ElementReplies
 pub mod EventCaseFacts
+pub mod MoreEventCaseFacts
 pub mod EventCases
 pub mod EventReplies
 pub mod Events
@@ -39,6 +40,7 @@ pub mod Things
 pub mod Timers
 pub mod Titles
 pub mod TreeCaseFacts
+pub mod MoreTreeCaseFacts
 pub mod TreeCases
 pub mod Truth
 pub mod WalkFacts

@@ -6,9 +6,9 @@ use Rattle.dom_semantics.specs.SelectorReadingModel.{next, build, finish, run}
 use Rattle.dom_semantics.specs.TreeCases.{dumped, ops}
 use Rattle.dom_semantics.proofs.facts.tree_cases_are_computed.Goals as goal
 
-pub returns : goal.returns
+pub returns-clause-first : goal.returns-clause-first
 unfolding encode_utf8 digits DEPTH_LIMIT NODE_LIMIT next build finish run dumped ops
-returns c = record {
+returns-clause-first c = record {
   c1_000 = refl;
   c1_001 = refl;
   c1_002 = refl;
@@ -19,6 +19,11 @@ returns c = record {
   c1_007 = refl;
   c1_008 = refl;
   c1_009 = refl;
+}
+
+pub returns-clause-more : goal.returns-clause-more
+unfolding encode_utf8 digits DEPTH_LIMIT NODE_LIMIT next build finish run dumped ops
+returns-clause-more c = record {
   c1_010 = refl;
   c1_011 = refl;
   c1_012 = refl;
