@@ -1,23 +1,11 @@
 -- Cases of a test.
-use Rattle.std.proofs.Common.{◌≡◌, ℕ, ◌<◌, ◌≤◌, Bool, true, false, ◌&&◌, ◌==◌, cond, refl, arith}
+use Rattle.std.proofs.Common.{◌≡◌, ℕ, ◌<◌, ◌≤◌, Bool, true, false, cond, refl, arith}
 use Rattle.std.specs.Prelude.{nat_le, nat_lt}
 use Rattle.std.proofs.lemmas.Bool.Decides.{nat_tests}
 
 pub cond_holds : {A : Type 0} (P : A → Type 0) (b : Bool) (x y : A) → (b ≡ true → P x) → (b ≡ false → P y) → P (cond b x y)
 cond_holds P true x y f g = f refl
 cond_holds P false x y f g = g refl
-
-pub both_left : (a b : Bool) → (a && b) ≡ true → a ≡ true
-both_left true b h = refl
-both_left false b h = h
-
-pub both_right : (a b : Bool) → (a && b) ≡ true → b ≡ true
-both_right true b h = h
-both_right false b h = absurd cc
-
-pub not_both : (b : Bool) → b ≡ true → b ≡ false → ⊥
-not_both true h k = absurd cc
-not_both false h k = absurd cc
 
 -- a test that is known
 pub when_false : {A : Type 0} (b : Bool) (x y z : A) → b ≡ false → y ≡ z → cond b x y ≡ z
@@ -29,12 +17,6 @@ when_true true x y z h e = e
 when_true false x y z h e = absurd cc
 
 -- tests of numbers
-pub same_scalar : (c d : ℕ) → (c == d) ≡ true → c ≡ d
-same_scalar c d h = grind (arith, nat_tests)
-
-pub test_le : (a b : ℕ) → nat_le a b ≡ true → a ≤ b
-test_le a b h = grind (arith, nat_tests)
-
 pub le_test : (a b : ℕ) → a ≤ b → nat_le a b ≡ true
 le_test a b h = grind (arith, nat_tests)
 

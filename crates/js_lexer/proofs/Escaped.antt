@@ -6,7 +6,8 @@ use Rattle.js_syntax.specs.TokenScalars.{Scalars, AreAll, NotNext, is_line_end, 
 use Rattle.js_syntax.specs.TokenTexts.{control, is_none, is_own_escape, IsUnicode, four, braced, Escape, control_escape, null, byte, unicode, pair, line_end, return, return_and_line_feed, own}
 use Rattle.js_lexer.specs.StringLiteralsModel.{Given, Numbered, run_of, low_half, begins_unicode, second_half, unicode_given, byte_given, past_line_feed, begins_decimal, or_own, escape, one}
 use Rattle.js_lexer.specs.StringLiteralsModel as read
-use Rattle.js_lexer.proofs.Cases.{same_scalar, cond_holds, both_left, both_right, not_both, when_false, when_true}
+use Rattle.js_lexer.proofs.Cases.{cond_holds, when_false, when_true}
+use Rattle.base_text.proofs.Tests.{same_scalar, both_left, both_right, not_both}
 use Rattle.js_lexer.proofs.HexRuns.{Counts, run_is, run_again, Unicodes, unicode_is, unicode_again}
 
 abbrev pub given_list : Option ℕ → Scalars

@@ -8,7 +8,8 @@ use Rattle.js_lexer.specs.declared.string_literals.Taken.TheVariants.{Nothing, S
 use Rattle.js_lexer.specs.declared.string_literals.Next.{Next}
 use Rattle.js_lexer.specs.declared.string_literals.Next.TheVariants.{Ends, Breaks, GoesOn}
 use Rattle.js_lexer.specs.StringLiteralsModel.{free_step, step, stepped, after_text}
-use Rattle.js_lexer.proofs.Cases.{same_scalar, cond_holds, not_both, when_false, when_true}
+use Rattle.js_lexer.proofs.Cases.{cond_holds, when_false, when_true}
+use Rattle.base_text.proofs.Tests.{same_scalar, not_both}
 
 -- ---- again
 

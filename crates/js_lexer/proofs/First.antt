@@ -16,7 +16,8 @@ use Rattle.js_syntax.specs.TokenFaults.{FrontFault, unclosed_comment, long_name,
 use Rattle.js_lexer.specs.RunsModel.{before, after_punctuator, too_wide}
 use Rattle.js_lexer.specs.StringLiteralsModel.{Decoded, decode}
 use Rattle.js_lexer.specs.TokenAtFrontModel.{AtFront, no_more, gap_of, token_of, fault_of, named, rest_runs_on, numbered, decoded, body_decoded, quoted, commented, punctuated, comment_or_punctuator, at_front}
-use Rattle.js_lexer.proofs.Cases.{lt_test, le_refl, cond_holds, not_both, when_true}
+use Rattle.js_lexer.proofs.Cases.{lt_test, le_refl, cond_holds, when_true}
+use Rattle.base_text.proofs.Tests.{not_both}
 use Rattle.js_lexer.proofs.Fronts.{before_is, after_again, block_open}
 use Rattle.js_lexer.proofs.LongestPunctuator.{Finds, punctuator_is}
 use Rattle.js_lexer.proofs.Numerals.{numeral_again}

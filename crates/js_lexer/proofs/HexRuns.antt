@@ -13,7 +13,8 @@ use Rattle.js_syntax.specs.TokenTexts.{IsUnicode}
 use Rattle.js_syntax.specs.TokenTexts as spelled
 use Rattle.js_lexer.specs.RunsModel.{digits_from, too_wide}
 use Rattle.js_lexer.specs.StringLiteralsModel.{Numbered, past_brace, braced_of, braced, whole_run, run_of, bounded, begins_brace, unicode, second_half, unicode_given}
-use Rattle.js_lexer.proofs.Cases.{same_scalar, test_le, le_test, cond_holds, both_left, both_right, not_both}
+use Rattle.js_lexer.proofs.Cases.{le_test, cond_holds}
+use Rattle.base_text.proofs.Tests.{same_scalar, test_le, both_left, both_right, not_both}
 use Rattle.js_lexer.proofs.Numerals.{digits_again, Digits, digits_is}
 
 -- hexadecimal digits at the front, the number that they write, and what follows them

@@ -10,7 +10,8 @@ use Rattle.js_lexer.specs.declared.string_literals.Taken.TheVariants.{Nothing}
 use Rattle.js_lexer.specs.RunsModel.{after, numeral}
 use Rattle.js_lexer.specs.StringLiteralsModel.{after_text}
 use Rattle.js_lexer.specs.TokenAtFrontModel.{gap_of, named, numbered, quoted, comment_or_punctuator, at_front}
-use Rattle.js_lexer.proofs.Cases.{same_scalar, both_left, both_right, not_both, when_false, when_true}
+use Rattle.js_lexer.proofs.Cases.{when_false, when_true}
+use Rattle.base_text.proofs.Tests.{same_scalar, both_left, both_right, not_both}
 use Rattle.js_lexer.proofs.Escaped.{decimal_low, decimal_high}
 
 -- a class that lacks a scalar doesn't hold of it

@@ -5,7 +5,7 @@ use Rattle.std.proofs.lemmas.Bool.Decides.{nat_tests}
 use Rattle.js_syntax.specs.TokenScalars.{Scalars}
 use Rattle.js_syntax.specs.TokenSpelling.{punctuators, IsIn, IsFront, IsPunctuator}
 use Rattle.js_lexer.specs.RunsModel.{past_front, or_else, after_punctuator}
-use Rattle.js_lexer.proofs.Cases.{test_le, both_left, both_right}
+use Rattle.base_text.proofs.Tests.{test_le, both_left, both_right}
 
 front_cases : (m c : ℕ) (ms cs rest : Scalars) (b : Bool) → (c == m) ≡ b → cond b (past_front ms cs) None ≡ Some rest → (past_front ms cs ≡ Some rest → cs ≡ ms ++ rest) → c ∷ cs ≡ (m ∷ ms) ++ rest
 front_cases m c ms cs rest true h e later = let same : c ≡ m = grind (arith, nat_tests) in ap (λ (x : ℕ). x ∷ cs) same ∙ ap (λ (x : Scalars). m ∷ x) (later e)

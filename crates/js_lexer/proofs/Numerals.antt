@@ -8,7 +8,7 @@ use Rattle.std.specs.Str.Parse.{digits_value_after, digits_value}
 use Rattle.js_syntax.specs.TokenScalars.{Scalars, AreAll, NotNext, is_decimal}
 use Rattle.js_syntax.specs.TokenSpelling.{Numeral, zero_digit, digits, hexadecimal, begins_hexadecimal}
 use Rattle.js_lexer.specs.RunsModel.{digits_from, numeral, too_wide}
-use Rattle.js_lexer.proofs.Cases.{same_scalar, test_le, both_left, both_right, not_both}
+use Rattle.base_text.proofs.Tests.{same_scalar, test_le, both_left, both_right, not_both}
 
 wide_times : (n w r : ℕ) → 1 ≤ r → w ≤ n → w ≤ n * r
 wide_times n w r h k = omega (arith, mul-le-mul_left n h)

@@ -13,7 +13,8 @@ use Rattle.js_lexer.proofs.Numerals.{digits_is}
 use Rattle.js_lexer.specs.declared.string_literals.Taken.TheVariants.{Nothing}
 use Rattle.js_lexer.specs.StringLiteralsModel.{after_text, decode}
 use Rattle.js_lexer.specs.AnswersModel.{IsDecoded}
-use Rattle.js_lexer.proofs.Cases.{test_le, le_refl, cond_holds, both_left, both_right}
+use Rattle.js_lexer.proofs.Cases.{le_refl, cond_holds}
+use Rattle.base_text.proofs.Tests.{test_le, both_left, both_right}
 use Rattle.js_lexer.proofs.Extents.{Extends, extent_is}
 use Rattle.js_lexer.proofs.Values.{decode_is}
 

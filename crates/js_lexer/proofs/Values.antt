@@ -7,7 +7,8 @@ use Rattle.js_syntax.specs.TokenScalars.{Scalars}
 use Rattle.js_syntax.specs.TokenTexts.{Escape, control_escape, null, byte, unicode, pair, line_end, return, return_and_line_feed, own, Spells, spells_nothing, itself, escaped, IsBadEscape}
 use Rattle.js_lexer.specs.StringLiteralsModel.{Given, Decoded, with_given, escaped_then, escape, one, decode}
 use Rattle.js_lexer.specs.AnswersModel.{IsDecoded}
-use Rattle.js_lexer.proofs.Cases.{same_scalar, cond_holds, not_both}
+use Rattle.js_lexer.proofs.Cases.{cond_holds}
+use Rattle.base_text.proofs.Tests.{same_scalar, not_both}
 use Rattle.js_lexer.proofs.Escaped.{given_list, Escapes, escape_is, escape_again}
 
 -- what stands at the front of a text, and what follows

@@ -10,7 +10,8 @@ use Rattle.js_syntax.specs.Symbols.{Tokens, symbol_of, punctuator_of}
 use Rattle.js_syntax.specs.TokenScalars.{Scalars}
 use Rattle.js_syntax.specs.TokenSpelling.{Word, punctuator, punctuators, IsIn, IsFront, opens_comment}
 use Rattle.small_scripts.proofs.Front.{Has, Led, token, past_word}
-use Rattle.small_scripts.proofs.Tests.{both_left, both_right, not_true, test_same}
+use Rattle.small_scripts.proofs.Tests.{not_true, test_same}
+use Rattle.base_text.proofs.Tests.{both_left, both_right}
 
 abbrev differs : ℕ → Scalars → Bool
 differs b [] = true

@@ -12,7 +12,8 @@ use Rattle.js_syntax.specs.Words.{leaf_of, value_of}
 use Rattle.js_syntax.specs.TokenScalars.{Scalars, AreAll, NotNext, is_decimal, runs_on}
 use Rattle.js_syntax.specs.TokenSpelling.{number, Numeral, zero_digit, digits, begins_hexadecimal, widest}
 use Rattle.small_scripts.proofs.Front.{Has, Led, token, past_word}
-use Rattle.small_scripts.proofs.Tests.{both_left, both_right, same_scalar, each_all, all_below, passes}
+use Rattle.small_scripts.proofs.Tests.{each_all, all_below, passes}
+use Rattle.base_text.proofs.Tests.{both_left, both_right, same_scalar}
 
 abbrev is_number : Option ℕ → ℕ → Bool
 is_number None n = false

@@ -1,34 +1,16 @@
 -- Tests of scalars, one by one.
-use Rattle.std.proofs.Common.{◌≡◌, ℕ, ◌<◌, ◌≤◌, suc, zero, Bool, true, false, ◌&&◌, ◌==◌, not, [], ◌∷◌, refl, ap, ◌∙◌, arith}
-use Rattle.std.specs.Prelude.{nat_le}
+use Rattle.std.proofs.Common.{◌≡◌, ℕ, ◌<◌, suc, zero, Bool, true, false, ◌&&◌, ◌==◌, not, [], ◌∷◌, refl, ap, ◌∙◌, arith}
 use Rattle.std.specs.List.{list_all}
 use Rattle.std.proofs.lemmas.Bool.Decides.{nat_tests}
+use Rattle.base_text.proofs.Tests.{both_left, both_right, not_both, same_scalar}
 use Rattle.js_syntax.specs.TokenScalars.{Scalars, AreAll}
-
-pub both_left : (a b : Bool) → (a && b) ≡ true → a ≡ true
-both_left true b h = refl
-both_left false b h = h
-
-pub both_right : (a b : Bool) → (a && b) ≡ true → b ≡ true
-both_right true b h = h
-both_right false b h = absurd cc
-
-pub not_both : (b : Bool) → b ≡ true → b ≡ false → ⊥
-not_both true h k = absurd cc
-not_both false h k = absurd cc
 
 pub not_true : (b : Bool) → not b ≡ true → b ≡ false
 not_true true h = absurd cc
 not_true false h = refl
 
-pub same_scalar : (c d : ℕ) → (c == d) ≡ true → c ≡ d
-same_scalar c d h = grind (arith, nat_tests)
-
 pub test_same : (c d : ℕ) → c ≡ d → (c == d) ≡ true
 test_same c d h = grind (arith, nat_tests)
-
-pub test_le : (a b : ℕ) → nat_le a b ≡ true → a ≤ b
-test_le a b h = grind (arith, nat_tests)
 
 lacks_cases : (q : ℕ → Bool) (c d : ℕ) (b : Bool) → (c == d) ≡ b → q d ≡ false → q c ≡ true → b ≡ false
 lacks_cases q c d true e h k = absurd (not_both (q c) k (ap q (same_scalar c d e) ∙ h))

@@ -14,7 +14,8 @@ use Rattle.js_syntax.specs.TokenScalars.{Scalars, AreAll, NotNext, is_name_start
 use Rattle.js_syntax.specs.TokenTexts.{Within, nothing, plain, is_plain, Spells, spells_nothing, itself}
 use Rattle.js_syntax.specs.TokenSpelling.{Word, name, text, name_kind, is_reserved}
 use Rattle.small_scripts.proofs.Front.{Has, Led, token, past_word}
-use Rattle.small_scripts.proofs.Tests.{both_left, both_right, not_true, test_le, each_all}
+use Rattle.small_scripts.proofs.Tests.{not_true, each_all}
+use Rattle.base_text.proofs.Tests.{both_left, both_right, test_le}
 
 -- ---- names
 
