@@ -64,7 +64,7 @@ abbrev pub is_child_of_parent : Forest → ℕ → Option ℕ → Bool
 is_child_of_parent f parent None = true
 is_child_of_parent f parent (Some b) = is_child f parent b
 
--- the node can't stand in any place of this parent
+-- the parent takes no children, or the node is the parent or stands above it (DOM, ensure pre-insert validity, steps 1 and 2)
 abbrev pub cannot_parent : Forest → ℕ → ℕ → Bool
 cannot_parent f parent n = not (takes_children (form_at f parent)) || is_inclusive_ancestor f n parent
 

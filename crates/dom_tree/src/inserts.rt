@@ -45,7 +45,7 @@ pub fn check_insert(
     Ok(())
 }
 
-/// Whether the parent has no children at all, or the node is the parent or above it.
+/// Whether the parent takes no children, or the node is the parent or above it (DOM, ensure pre-insert validity).
 fn cannot_parent(nodes: &[Stored], parents: &[Option<u32>], parent: u32, node: u32) -> bool
     requires forest { IsForest nodes.now }
     requires parents { AreParents nodes.now parents.now }

@@ -1,3 +1,4 @@
+-- Temporary, for the proof of runs of the small forms; no clause of the public calls of `page_host` cites it.
 -- How long an actor is closed, which is how long it is said to do what its own machine does; this project's own (after MDN on Xray vision).
 use Rattle.std.specs.Prelude.{◌≡◌, ◌≤◌, ◌&&◌, ◌||◌, Bool, true, false, not, List, [], ◌∷◌, ◌++◌, drop, length, nat_le, take, if◌then◌else◌}
 use Rattle.std.specs.List.{list_any, take_while}

@@ -1,3 +1,4 @@
+-- Temporary, for the proof of runs of the small forms; no clause of the public calls of `page_host` cites it.
 -- The turns of a lawful journal; their order is this project's own (after HTML, Parsing and The end).
 use Rattle.std.specs.Prelude.{◌≡◌, ◌⊎◌, ◌+◌, ℕ, Bool, true, false, List, [], ◌∷◌, ◌++◌, map, length, codes, slice_get, slice_index_or, nat_eq, if◌then◌else◌, Option, Some, None}
 use Rattle.door.specs.declared.values.Actor.{Actor}

@@ -1,3 +1,4 @@
+-- Temporary, for the proof of runs of the small forms; no clause of the public calls of `page_host` cites it.
 -- The transition relation: a machine, run on an actor's view of the journal, reaches this state.
 use Rattle.std.specs.Prelude.{◌≡◌, List, [], ◌∷◌}
 use Rattle.js_semantics.specs.Solo.{Program, Asks, Emits, State, Runs, Awaits, Entering}

@@ -1,3 +1,4 @@
+-- Temporary, for the proof of runs of the small forms; no clause of the public calls of `page_host` cites it.
 -- The stage after a journal: the document's nodes, the events and the readiness, as the marks make them (DOM, Nodes and Events).
 -- Listeners, the flags of a walk, timers and stores aren't built yet, and no request that changes them comes.
 use Rattle.std.specs.Prelude.{ℕ, Bool, true, false, List, [], ◌∷◌, ◌++◌, nat_eq, if◌then◌else◌, Option, Some, None}

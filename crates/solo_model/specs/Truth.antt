@@ -1,3 +1,4 @@
+-- Temporary, for the proof of runs of the small forms; no clause of the public calls of `page_host` cites it.
 -- The true answer to each request, and journals whose answers are all true.
 use Rattle.std.specs.Prelude.{◌≡◌, ℕ, List, [], ◌∷◌, ◌++◌, nat_lt, if◌then◌else◌, Option, Some, None}
 use Rattle.base_text.specs.Scalars.{utf8_len}

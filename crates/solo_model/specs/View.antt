@@ -1,3 +1,4 @@
+-- Temporary, for the proof of runs of the small forms; no clause of the public calls of `page_host` cites it.
 -- What one actor sees of a journal: its own marks in order, with things and foreign objects named by the order in which it met them; this project's own.
 use Rattle.std.specs.Prelude.{◌&&◌, ℕ, Bool, List, [], ◌∷◌, ◌++◌, map, nat_eq, if◌then◌else◌}
 use Rattle.std.specs.List.{list_any, position_or_len}
