@@ -1,5 +1,6 @@
 -- The number that a text spells is the one of the grammar.
 use Rattle.std.proofs.Common.{◌≡◌, ◌↔◌, ℕ, ◌<◌, Bool, true, false, cond, ◌&&◌, ◌==◌, List, [], ◌∷◌, ◌++◌, append-nil, length, Some, None, ℤ, refl, sym, ap, ◌∙◌, arith}
+use Rattle.std.proofs.lemmas.Bool.{and_parts}
 use Rattle.std.specs.Char.{is_ascii_digit}
 use Rattle.std.specs.List.{list_all}
 use Rattle.std.proofs.lemmas.Bool.Decides.{nat_tests}
@@ -24,20 +25,16 @@ front-passes p (c ∷ cs) = passed (p c) refl (front-passes p cs)
     passed false e rest = refl
 
 -- scalars that pass are passed over
-all_split : (a b : Bool) → (a && b) ≡ true → (a ≡ true) × (b ≡ true)
-all_split true b h = (refl, h)
-all_split false b h = absurd (cc)
-
 after-passed : (p : ℕ → Bool) (xs ys : List ℕ) → list_all p xs ≡ true → after_while p (xs ++ ys) ≡ after_while p ys
 after-passed p [] ys all = refl
 after-passed p (x ∷ xs) ys all =
-    let both = all_split (p x) (list_all p xs) all in
+    let both = and_parts (p x) (list_all p xs) all in
     rw both.0 (after-passed p xs ys both.1)
 
 front-passed : (p : ℕ → Bool) (xs ys : List ℕ) → list_all p xs ≡ true → front_while p (xs ++ ys) ≡ xs ++ front_while p ys
 front-passed p [] ys all = refl
 front-passed p (x ∷ xs) ys all =
-    let both = all_split (p x) (list_all p xs) all in
+    let both = and_parts (p x) (list_all p xs) all in
     rw both.0 (ap (λ (zs : List ℕ). x ∷ zs) (front-passed p xs ys both.1))
 
 -- no digit is white space or a `-`
@@ -57,11 +54,11 @@ blank_no_digit c blank = decided (is_ascii_digit c) refl
 -- white space begins with no digit
 front-blank : (t : List ℕ) → list_all is_blank t ≡ true → front_while is_ascii_digit t ≡ []
 front-blank [] blank = refl
-front-blank (c ∷ cs) blank = rw (blank_no_digit c (all_split (is_blank c) (list_all is_blank cs) blank).0)
+front-blank (c ∷ cs) blank = rw (blank_no_digit c (and_parts (is_blank c) (list_all is_blank cs) blank).0)
 
 after-blank : (t : List ℕ) → list_all is_blank t ≡ true → after_while is_ascii_digit t ≡ t
 after-blank [] blank = refl
-after-blank (c ∷ cs) blank = rw (blank_no_digit c (all_split (is_blank c) (list_all is_blank cs) blank).0)
+after-blank (c ∷ cs) blank = rw (blank_no_digit c (and_parts (is_blank c) (list_all is_blank cs) blank).0)
 
 -- digits and white space spell the number of the digits
 between : (minus : Bool) (d : ℕ) (ds after : List ℕ) → list_all is_ascii_digit (d ∷ ds) ≡ true → list_all is_blank after ≡ true → digits_spelled minus (d ∷ ds ++ after) ≡ Some (signed minus (value_after 0 (d ∷ ds)))
@@ -79,7 +76,7 @@ signed_read : (minus : Bool) (digits after : List ℕ) → 0 < length digits →
 signed_read minus [] after some digits blank = absurd (omega arith)
 signed_read true (d ∷ ds) after some digits blank = between true d ds after digits blank
 signed_read false (d ∷ ds) after some digits blank =
-    let first = (all_split (is_ascii_digit d) (list_all is_ascii_digit ds) digits).0 in
+    let first = (and_parts (is_ascii_digit d) (list_all is_ascii_digit ds) digits).0 in
     rw (digit_no_blank d first, digit_no_minus d first) (between false d ds after digits blank)
 
 spelled_from_parts : (t : List ℕ) (n : ℤ) → Spells t n → number_spelled t ≡ Some n

@@ -4,19 +4,11 @@ use Rattle.std.specs.Prelude.{IsTrue, ◌↔◌}
 use Rattle.std.specs.Borrow.{Bor}
 use Rattle.std.specs.List.{list_all, list_any}
 use Rattle.std.specs.Prelude.{◌==◌}
-use Rattle.std.proofs.lemmas.Bool.{eqb-true}
+use Rattle.std.proofs.lemmas.Bool.{and_from, and_parts, eqb-true}
 use Rattle.std.proofs.Common.{ap, sym, ◌∙◌, subst, append_assoc, true≢false, arith}
 use Rattle.metadata_block.specs.Blanks.{is_blank, AreBlanks, HasNoBlank, StartsSolid, EndsSolid}
 use Rattle.metadata_block.specs.BlanksModel.{skip_blanks, drop_blanks, unless_blank, until_blank, from_blank}
 use Rattle.metadata_block.specs.Lines.{IsMark, IsPair, IsTrimmed, HoldsValue, IsShort, IsSkipped}
-
-both_true : (a b : Bool) → a ≡ true → b ≡ true → a && b ≡ true
-both_true true b p q = q
-both_true false b p q = absurd (true≢false (sym p))
-
-parts_true : (a b : Bool) → a && b ≡ true → (a ≡ true) × (b ≡ true)
-parts_true true b p = (refl, p)
-parts_true false b p = absurd (true≢false (sym p))
 
 both_false : (a b : Bool) → a ≡ false → b ≡ false → a || b ≡ false
 both_false true b p q = p
@@ -31,14 +23,14 @@ parts_false false b p = (refl, p)
 pub skip_front : (front : List ℕ) (x : ℕ) (t : List ℕ) → AreBlanks front → is_blank x ≡ false → skip_blanks (front ++ (x ∷ t)) ≡ x ∷ t
 skip_front [] x t blank solid = ap (λ (b : Bool). if b then skip_blanks t else x ∷ t) solid
 skip_front (f ∷ fs) x t blank solid =
-    let p = parts_true (is_blank f) (list_all is_blank fs) blank in
+    let p = and_parts (is_blank f) (list_all is_blank fs) blank in
     ap (λ (b : Bool). if b then skip_blanks (fs ++ (x ∷ t)) else f ∷ (fs ++ (x ∷ t))) p.0 ∙ skip_front fs x t p.1 solid
 
 pub skip_split : (s : List ℕ) → (front : List ℕ) × AreBlanks front × (s ≡ front ++ skip_blanks s) × StartsSolid (skip_blanks s)
 skip_split [] = ([], refl, refl, tt)
 skip_split (b ∷ bs) =
     elim (is_blank b) as (λ t. is_blank b ≡ t → (front : List ℕ) × AreBlanks front × (b ∷ bs ≡ front ++ (if t then skip_blanks bs else b ∷ bs)) × StartsSolid (if t then skip_blanks bs else b ∷ bs)) [
-      | true ↦ λ e. let rest = skip_split bs in (b ∷ rest.0, both_true (is_blank b) (list_all is_blank rest.0) e rest.1, ap (λ (r : List ℕ). b ∷ r) rest.2, rest.3)
+      | true ↦ λ e. let rest = skip_split bs in (b ∷ rest.0, and_from (is_blank b) (list_all is_blank rest.0) e rest.1, ap (λ (r : List ℕ). b ∷ r) rest.2, rest.3)
       | false ↦ λ e. ([], refl, refl, e)
     ] refl
 
@@ -47,7 +39,7 @@ skip_split (b ∷ bs) =
 pub drop_all : (bs : List ℕ) → AreBlanks bs → drop_blanks bs ≡ []
 drop_all [] blank = refl
 drop_all (b ∷ bs) blank =
-    let p = parts_true (is_blank b) (list_all is_blank bs) blank in
+    let p = and_parts (is_blank b) (list_all is_blank bs) blank in
     ap (unless_blank b) (drop_all bs p.1) ∙ ap (λ (t : Bool). if t then [] else b ∷ []) p.0
 
 pub drop_back : (t back : List ℕ) → AreBlanks back → EndsSolid t → drop_blanks (t ++ back) ≡ t
@@ -59,7 +51,7 @@ split_more : (b : ℕ) (bs kept back : List ℕ) → AreBlanks back → bs ≡ k
     → (more : List ℕ) × AreBlanks more × (b ∷ bs ≡ unless_blank b kept ++ more) × EndsSolid (unless_blank b kept)
 split_more b bs [] back blank e solid =
     elim (is_blank b) as (λ t. is_blank b ≡ t → (more : List ℕ) × AreBlanks more × (b ∷ bs ≡ (if t then [] else b ∷ []) ++ more) × EndsSolid (if t then [] else b ∷ [])) [
-      | true ↦ λ h. (b ∷ back, both_true (is_blank b) (list_all is_blank back) h blank, ap (λ (r : List ℕ). b ∷ r) e, tt)
+      | true ↦ λ h. (b ∷ back, and_from (is_blank b) (list_all is_blank back) h blank, ap (λ (r : List ℕ). b ∷ r) e, tt)
       | false ↦ λ h. (back, blank, ap (λ (r : List ℕ). b ∷ r) e, h)
     ] refl
 split_more b bs (c ∷ cs) back blank e solid = (back, blank, ap (λ (r : List ℕ). b ∷ r) e, solid)
@@ -193,10 +185,10 @@ from_key (k ∷ ks) more value solid h =
 skip_all : (front back : List ℕ) → AreBlanks front → AreBlanks back → skip_blanks (front ++ back) ≡ []
 skip_all [] [] p q = refl
 skip_all [] (b ∷ bs) p q =
-    let r = parts_true (is_blank b) (list_all is_blank bs) q in
+    let r = and_parts (is_blank b) (list_all is_blank bs) q in
     ap (λ (t : Bool). if t then skip_blanks bs else b ∷ bs) r.0 ∙ skip_all [] bs refl r.1
 skip_all (f ∷ fs) back p q =
-    let r = parts_true (is_blank f) (list_all is_blank fs) p in
+    let r = and_parts (is_blank f) (list_all is_blank fs) p in
     ap (λ (t : Bool). if t then skip_blanks (fs ++ back) else f ∷ (fs ++ back)) r.0 ∙ skip_all fs back r.1 q
 
 one_trim : (s t front back : List ℕ) → AreBlanks front → AreBlanks back → s ≡ front ++ (t ++ back) → StartsSolid t → EndsSolid t → drop_blanks (skip_blanks s) ≡ t

@@ -21,7 +21,7 @@ use Rattle.solo_model.specs.NextMark.{Allows, AreAllowed, IsLawfulSoFar, next_of
 use Rattle.solo_model.specs.Tasks.{first_tasks, lines_after, next_task, pieces_from, starts_at, starts_then, task_in, timer_or}
 use Rattle.solo_model.proofs.Growing.{progress_from-append}
 use Rattle.solo_model.proofs.NextTurns.{allowed_turn, below, task_of, turn_next}
-use Rattle.solo_model.proofs.Owners.{both_true}
+use Rattle.std.proofs.lemmas.Bool.{and_from}
 
 -- ---- the clock of a later line is no earlier one
 
@@ -169,8 +169,8 @@ step : (lines : List Line) (first at : ℕ) (p : Progress) (mark : Mark) (clocks
     → ((place : ℕ) → place ≤ at → AreOrdered place (clock_before (advanced at p mark).line lines) clocks)
     → AreOrdered first (clock_before p.line lines) (clock_by lines at mark clocks)
 step lines first at p (Turn (LineTask k)) clocks h is ordered =
-    both_true (is_clock_before (first, clock_before p.line lines) (at, clock_before k lines)) (are_ascending is_clock_before ((at, clock_before k lines) ∷ clocks))
-    (both_true (nat_le first at) (nat_le (clock_before p.line lines) (clock_before k lines)) (test_le first at h)
+    and_from (is_clock_before (first, clock_before p.line lines) (at, clock_before k lines)) (are_ascending is_clock_before ((at, clock_before k lines) ∷ clocks))
+    (and_from (nat_le first at) (nat_le (clock_before p.line lines) (clock_before k lines)) (test_le first at h)
     (test_le (clock_before p.line lines) (clock_before k lines) (clock_later p.line k lines (less_or_same p.line k is))))
     (ordered at (same at))
   where

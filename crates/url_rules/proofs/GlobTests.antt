@@ -1,7 +1,7 @@
 -- The test for globs against the relation.
 use Rattle.std.specs.Prelude.{◌≡◌, ◌⊎◌, ◌↔◌, ℕ, List, [], ◌∷◌, ◌++◌, Bool, true, false, ◌&&◌, ◌||◌, ◌==◌, IsTrue, refl, if◌then◌else◌}
 use Rattle.std.proofs.Common.{ap, sym, ◌∙◌, inl, inr, true≢false, eq-eqb}
-use Rattle.std.proofs.lemmas.Bool.{eqb-true}
+use Rattle.std.proofs.lemmas.Bool.{and_from, and_parts, eqb-true}
 use Rattle.url_rules.specs.Globs.{GlobFits}
 use Rattle.url_rules.specs.GlobModel.{is_nil, some_end, after_one, fits_glob}
 
@@ -17,14 +17,6 @@ right_true : (a b : Bool) → b ≡ true → a || b ≡ true
 right_true true b h = refl
 right_true false b h = h
 
-both_true : (a b : Bool) → a ≡ true → b ≡ true → a && b ≡ true
-both_true true b p q = q
-both_true false b p q = absurd (true≢false (sym p))
-
-parts_true : (a b : Bool) → a && b ≡ true → (a ≡ true) × (b ≡ true)
-parts_true true b p = (refl, p)
-parts_true false b p = absurd (true≢false (sym p))
-
 some_end_of : (f : List ℕ → Bool) (front back : List ℕ) → f back ≡ true → some_end f (front ++ back) ≡ true
 some_end_of f [] [] h = h
 some_end_of f [] (b ∷ bs) h = left_true (f (b ∷ bs)) (some_end f bs) h
@@ -39,10 +31,10 @@ of_some_end f (x ∷ xs) h = elim (either_true (f (x ∷ xs)) (some_end f xs) h)
 
 of_after_one : (c : ℕ) (f : List ℕ → Bool) (text : List ℕ) → after_one c f text ≡ true → (rest : List ℕ) × (text ≡ c ∷ rest) × (f rest ≡ true)
 of_after_one c f [] h = absurd (true≢false (sym h))
-of_after_one c f (x ∷ xs) h = let p = parts_true (x == c) (f xs) h in (xs, ap (λ (k : ℕ). k ∷ xs) (eqb-true x c p.0), p.1)
+of_after_one c f (x ∷ xs) h = let p = and_parts (x == c) (f xs) h in (xs, ap (λ (k : ℕ). k ∷ xs) (eqb-true x c p.0), p.1)
 
 after_one_of : (c : ℕ) (f : List ℕ → Bool) (text rest : List ℕ) → text ≡ c ∷ rest → f rest ≡ true → after_one c f text ≡ true
-after_one_of c f text rest e h = ap (after_one c f) e ∙ both_true (c == c) (f rest) (eq-eqb c c refl) h
+after_one_of c f text rest e h = ap (after_one c f) e ∙ and_from (c == c) (f rest) (eq-eqb c c refl) h
 
 pub fits_of : (pattern text : List ℕ) → fits_glob pattern text ≡ true → GlobFits pattern text
 fits_of [] [] h = refl
