@@ -108,7 +108,9 @@ module _ (s : State) (one : StartTag) (inside_text : Bytes) (is : IsStartTag s.r
 
     end_read_there : m.end_step r.last ≡ Ok closed_there
     unfolding m.end_step
-    end_read_there = rw (r.same_rest, end_again at_end_tag one.name behind end) end_named_there
+    end_read_there =
+        let read : end_tag_at r.last.rest ≡ Ok (one.name, behind) = ap end_tag_at r.same_rest ∙ end_again at_end_tag one.name behind end in
+        rw read end_named_there
 
     end_steps : Steps r.last (Ok (Next closed_there))
     end_steps = subst (λ o. Steps r.last (m.next_of o)) end_read_there (rw (ap front_of r.same_rest ∙ is_end_found at_end_tag one.name behind end) over_end_tag)

@@ -84,7 +84,7 @@ some_text (b ∷ bs) h = omega arith
 
 not_not : (v : Bool) → not v ≡ false → v ≡ true
 not_not true h = refl
-not_not false h = absurd (not_both (sym h))
+not_not false h = absurd (not_both h)
 
 not_yes : (v : Bool) → not v ≡ true → v ≡ false
 not_yes true h = absurd (not_both (sym h))
@@ -163,7 +163,7 @@ module _ (s : State) where
 
   wrong_told : (os : List Opening) (name rest : Bytes) → s.open_elements ≡ listed os → end_tag_at s.rest ≡ Ok (name, rest) → (EndsInnermost os name → ⊥) → m.end_step s ≡ Err (WrongEnd, s.rest)
   unfolding m.end_step
-  wrong_told os name rest same h n = rw (h, same) (wrong_at os name rest n)
+  wrong_told os name rest same h n = rw h (ap (λ xs. m.ended s name rest (innermost xs)) same ∙ wrong_at os name rest n)
 
   start_told : (e : PageKind × Bytes) → front_of s.rest ≡ m.start_tag → (is_at_top s && s.begun) ≡ false → ElementStep s (Err e) → Steps s (Err e)
   start_told e front may step = rw front (over_element (Err e) may step)
@@ -221,7 +221,7 @@ module _ (s : State) (h : Bool) (os : List Opening) (n : ℕ) (same : s.open_ele
 
   pub fault_again : (kind : PageKind) (place : Bytes) → FaultAt h os n s.rest kind place → Steps s (Err (kind, place))
   fault_again _ _ (faults.unclosed o e is) = unclosed_told os o refl is e
-  fault_again _ _ (faults.bad_markup first no) = bad_told s (bad_found s.rest first no)
+  fault_again _ _ (faults.bad_markup first plain) = bad_told s (bad_found s.rest first plain)
   fault_again _ _ (faults.late_doctype first may) = doctype_told s (BadTag, s.rest) (doctype_found s.rest first) (late_told s (late_is may))
   fault_again _ _ (faults.no_doctype_end first may all) = doctype_told s (Unclosed, s.rest) (doctype_found s.rest first) (endless_told s (early_is may) (doctype_missing s.rest all))
   fault_again _ _ (faults.text_at_top first top space) = text_told s (BadTag, s.rest) (text_found s.rest first) (top_text_told s (top_is ∙ top) space)
@@ -246,5 +246,5 @@ module _ (s : State) (h : Bool) (os : List Opening) (n : ℕ) (same : s.open_ele
       (inner_text_told s (TooLong, s.rest) (top_is ∙ top) (text_long s (free room) is_long))
   fault_again kind place (faults.in_end_tag first fault) =
       end_tag_told s (kind, place) (end_found s.rest first) (end_tag_bad s (kind, place) (end_refused s.rest kind place (end_slash s.rest first) (begun_end s.rest first) fault))
-  fault_again _ _ (faults.wrong_end {name = name} {rest = rest} is no) =
-      end_tag_told s (WrongEnd, s.rest) (is_end_found s.rest name rest is) (wrong_told s os name rest same (end_again s.rest name rest is) no)
+  fault_again _ _ (faults.wrong_end {name = name} {rest = rest} is other) =
+      end_tag_told s (WrongEnd, s.rest) (is_end_found s.rest name rest is) (wrong_told s os name rest same (end_again s.rest name rest is) other)

@@ -66,7 +66,7 @@ not_false false h = refl
 
 not_true : (p : Bool) → not p ≡ false → p ≡ true
 not_true true h = refl
-not_true false h = absurd (not_both (sym h))
+not_true false h = absurd (not_both h)
 
 -- ---- behind `<`
 
@@ -191,10 +191,10 @@ pub is_doctype_found : (text rest : Bytes) → IsDoctype text rest → front_of 
 is_doctype_found text rest (tags.doctype front h e all) = doctype_found text h
 
 pub is_start_found : (text rest : Bytes) (t : StartTag) → IsStartTag text t rest → front_of text ≡ start_tag
-is_start_found text rest _ (tags.start_tag {inside = inside} e letter run all end) = ap front_of e ∙ start_found (60 ∷ inside) letter
+is_start_found text rest _ (tags.start_tag {inside = inside} e letter name_run all end) = ap front_of e ∙ start_found (60 ∷ inside) letter
 
 pub is_end_found : (text name rest : Bytes) → IsEndTag text name rest → front_of text ≡ end_tag
-is_end_found text _ rest (tags.end_tag {inside = inside} e letter run space) = ap front_of e ∙ end_behind inside letter
+is_end_found text _ rest (tags.end_tag {inside = inside} e letter name_run space) = ap front_of e ∙ end_behind inside letter
 
 pub run_begins_text : (text raw rest : Bytes) → UpTo begins_markup text raw rest → 0 < length raw → begins_text text ≡ true
 run_begins_text text [] rest up some = absurd (omega (arith, some))

@@ -2,6 +2,7 @@
 use Rattle.std.proofs.Common.{◌≡◌, ℕ, suc, ◌+◌, ◌<◌, ◌≤◌, ◌⊎◌, inl, inr, Bool, true, false, cond, nat_lt, List, [], ◌∷◌, ◌++◌, Option, Some, None, Ok, Err, length, drop, refl, ap, sym, ◌∙◌, subst, arith, add-one, append-nil, length-append}
 use Rattle.std.proofs.Common.{ltb}
 use Rattle.std.proofs.lemmas.Bool.{lt-ltb}
+use Rattle.std.specs.Str.{chars}
 use Rattle.base_text.specs.declared.text.TheConstants.{TEXT_LIMIT}
 use Rattle.page_text.specs.declared.faults.PageKind.{PageKind}
 use Rattle.page_text.specs.declared.faults.PageKind.TheVariants.{TooLong, Unclosed}
@@ -118,9 +119,9 @@ module _ (raw : Raw) (next depth : ℕ) (start inside : Bytes) where
   read_inside text at_end nodes up ends within =
       let same = front_once (begins_end_of (raw_name raw)) inside content rest text at_end parts up in
       let is = subst (λ x. IsContent raw (suc (suc depth)) (suc next) x nodes) (sym same.0) (inside_is raw (suc (suc depth)) (suc next) text nodes within) in (
-        _,
-        by_parts (Ok _) (is_empty content) false refl (ap is_empty same.1 ∙ end_there at_end ends)
-            (free_bind (is_empty content) false (Ok _) is.room (checked_again (read_raw raw content) inside is.short)),
+        chars (read_raw raw content),
+        by_parts (Ok (chars (read_raw raw content))) (is_empty content) false refl (ap is_empty same.1 ∙ end_there at_end ends)
+            (free_bind (is_empty content) false (Ok (chars (read_raw raw content))) is.room (checked_again (read_raw raw content) inside is.short)),
         same.1,
       )
 

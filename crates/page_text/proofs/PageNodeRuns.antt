@@ -14,7 +14,7 @@ use Rattle.page_text.specs.Nodes.{the_document}
 use Rattle.page_text.specs.TagsModel.{after_space, doctype_at}
 use Rattle.page_text.specs.StepsModel as m
 use Rattle.page_text.specs.StepsModel.{State, Next, Steps, parent, is_at_top, over_text, over_doctype, front_of}
-use Rattle.page_text.specs.PageSpelling.{UpTo, Space}
+use Rattle.page_text.specs.PageSpelling.{UpTo, Space, begins_markup}
 use Rattle.page_text.specs.PageTags.{StartTag, IsStartTag, IsEndTag, IsComment, IsDoctype, IsShort, tag_of, attributes_of}
 use Rattle.page_text.specs.PageNodes.{Nodes, NoNodes, Element, Text, Comment, count, joined, Made, Build, cut, made_of}
 use Rattle.page_text.specs.PageGrammar.{HasRoom, HoldsText, begins_end_of, IsTextInside, is_normal, IsNodes, no_more, comment, text_run, void_element, text_element, normal_element}
@@ -71,7 +71,7 @@ nodes_run depth n text rest _ (comment {content = content} {behind = behind} {ot
     (nodes_run depth (suc n) behind rest others more r.last r.same_rest (depth_on s node behind r depth d) (omega (arith, k, r.next)) (inner_on s node behind r false inner))
 nodes_run depth n text rest _ (text_run {raw = raw} {content = content} {behind = behind} {others = others} room up some read len more) s e d k inner =
     let node = Text (chars content) NoNodes in
-    let r = text_reached s raw content behind (room_on s depth n d k room) (subst (λ x. UpTo _ x raw behind) (sym e) up) some read len inner in
+    let r = text_reached s raw content behind (room_on s depth n d k room) (subst (λ x. UpTo begins_markup x raw behind) (sym e) up) some read len inner in
     reaches_joined s node others behind rest r
     (nodes_run depth (suc n) behind rest others more r.last r.same_rest (depth_on s node behind r depth d) (omega (arith, k, r.next)) (inner_on s node behind r false inner))
 nodes_run depth n text rest _ (void_element {behind = behind} {t = t} {others = others} room is len void more) s e d k inner =
@@ -126,7 +126,8 @@ module _ (s : State) (top : s.open_elements ≡ []) where
   doctype_reached : (behind : Bytes) → IsDoctype s.rest behind → s.begun ≡ false → Reaches s NoNodes behind
   doctype_reached behind is fresh =
       let u = record s { rest = behind } in
-      let step : m.at_doctype s ≡ Ok (Next u) = rw (top_of s top, fresh, doctype_stepped behind (doctype_again s.rest behind is)) refl in
+      let may : (is_at_top s && cond s.begun false true) ≡ true = rw (top_of s top, fresh) refl in
+      let step : m.at_doctype s ≡ Ok (Next u) = rw may (ap m.next_of (doctype_stepped behind (doctype_again s.rest behind is))) in
       let steps : Steps s (Ok (Next u)) = subst (Steps s) step (rw (is_doctype_found s.rest behind is) over_doctype) in
       step_reaches s u NoNodes [] steps refl (omega arith) (or_none s.begun) (sym (append-nil s.writes)) refl refl
 

@@ -106,7 +106,14 @@ module _ (s : State) (before nodes : Nodes) (at inside rest : Bytes) (t : StartT
       let second : b.last.next ≡ suc place = omega (arith, b.next, a.next, k) in
       let parents : parent a.last ≡ parent s = parent_of_state a.last outer a.same_open ∙ sym (parent_of_state s outer same) in
       let within : parent b.last ≡ thing_of kind.Element place = parent_of_state b.last (opening place at t ∷ outer) b.same_open in
-      rw (first, second, parents, within) (sym (made_begun (parent s) s.next place before t nodes (ap (λ x. x + count before) k) normal))
+      let front = made_of (parent s) s.next before in
+      let writes : element_writes a.last.next (parent a.last) (tag_of t) (attributes_of t) ≡ element_writes place (parent s) (tag_of t) (attributes_of t) =
+      ap (λ x. element_writes x (parent a.last) (tag_of t) (attributes_of t)) first ∙ ap (λ x. element_writes place x (tag_of t) (attributes_of t)) parents in
+      let deep : made_of (parent b.last) b.last.next nodes ≡ made_of (thing_of kind.Element place) (suc place) nodes =
+      ap (λ x. made_of x b.last.next nodes) within ∙ ap (λ x. made_of (thing_of kind.Element place) x nodes) second in
+      ap (λ ws. front ++ (map Build ws ++ made_of (parent b.last) b.last.next nodes)) writes
+      ∙ (ap (λ ms. front ++ (map Build (element_writes place (parent s) (tag_of t) (attributes_of t)) ++ ms)) deep
+      ∙ sym (made_begun (parent s) s.next place before t nodes (ap (λ x. x + count before) k) normal))
 
   comes_deep : Comes s (made_of (parent s) s.next (joined before (begun t nodes))) (count (joined before (begun t nodes))) h open_there rest
   comes_deep =

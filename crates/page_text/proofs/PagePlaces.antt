@@ -126,7 +126,7 @@ innermost_rest text (x ∷ os) o is stand = subst (λ (y : Opening). IsRestOf te
 
 fault_rest_at : (whole : Bytes) (h : Bool) (os : List Opening) (n : ℕ) (text place : Bytes) (kind : PageKind) → Standing whole os text → FaultAt h os n text kind place → IsRestOf whole place
 fault_rest_at whole h os n text _ _ s (f.unclosed o e is) = innermost_rest whole os o is s.openings
-fault_rest_at whole h os n text _ _ s (f.bad_markup first no) = s.behind
+fault_rest_at whole h os n text _ _ s (f.bad_markup first plain) = s.behind
 fault_rest_at whole h os n text _ _ s (f.late_doctype first may) = s.behind
 fault_rest_at whole h os n text _ _ s (f.no_doctype_end first may all) = s.behind
 fault_rest_at whole h os n text _ _ s (f.text_at_top first top space) = s.behind
@@ -138,7 +138,7 @@ fault_rest_at whole h os n text place kind s (f.in_comment room fault) = rest_of
 fault_rest_at whole h os n text place kind s (f.in_element first may room fault) = rest_of_rest whole text place s.behind (element_fault_rest _ n text place kind fault)
 fault_rest_at whole h os n text _ _ s (f.long_text top room up read long) = s.behind
 fault_rest_at whole h os n text place kind s (f.in_end_tag first fault) = rest_of_rest whole text place s.behind (end_fault_rest text place kind fault)
-fault_rest_at whole h os n text _ _ s (f.wrong_end is no) = s.behind
+fault_rest_at whole h os n text _ _ s (f.wrong_end is other) = s.behind
 
 -- the text from the fault's place on is the rest of the page's
 pub fault_rest : (text : Bytes) (nodes : Nodes) (kind : PageKind) (place : Bytes) → IsFault text nodes kind place → IsRestOf text place

@@ -169,7 +169,7 @@ end_some text _ rest (end_tag e letter run space) = ap is_empty e
 module _ (s : State) (one : StartTag) (after_start content at_end_tag behind : Bytes) (raw : Raw) (inside : Nodes) (is : IsStartTag s.rest one after_start)
     (up : UpTo (begins_end_of (raw_name raw)) after_start content at_end_tag) (within : IsContent raw (suc (suc (length s.open_elements))) (suc s.next) content inside)
     (end : IsEndTag at_end_tag one.name behind) (named : encode_utf8_all (tag_of one) ≡ raw_name raw) where
-  shown : List ℕ
+  pub shown : List ℕ
   shown = chars (read_raw raw content)
 
   abbrev t : Tag

@@ -56,7 +56,7 @@ raw_nothing kinds.Title = refl
 raw_nothing kinds.Textarea = refl
 
 -- the text, where it isn't empty, is a node
-pub inside_of : Bool → List ℕ → Nodes
+unfoldable pub inside_of : Bool → List ℕ → Nodes
 inside_of true shown = NoNodes
 inside_of false shown = Text shown NoNodes
 
@@ -113,7 +113,7 @@ inside_read raw next depth d n start text shown e f h =
 -- ---- what is made
 
 -- what the end tag of such an element makes
-pub ended_by : Raw → List Attribute → List ℕ → List Made
+unfoldable pub ended_by : Raw → List Attribute → List ℕ → List Made
 ended_by kinds.Script all shown = cond (is_runnable all) (tree.Script shown ∷ []) (external_of (value_of (codes "src") all))
 ended_by kinds.Style all shown = []
 ended_by kinds.Title all shown = []
@@ -128,7 +128,7 @@ at_end kinds.Title tag all inside shown e f = rw e refl
 at_end kinds.Textarea tag all inside shown e f = rw e refl
 
 -- the requests for the text inside
-pub inside_writes : Bool → ℕ → List ℕ → List Request
+unfoldable pub inside_writes : Bool → ℕ → List ℕ → List Request
 inside_writes true number shown = []
 inside_writes false number shown = text_writes (suc number) (thing_of kind.Element number) shown
 

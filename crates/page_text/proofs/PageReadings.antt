@@ -115,7 +115,7 @@ none_some x e = cc
 front_length : (bytes front place : Bytes) → bytes ≡ front ++ place → length front ≡ length bytes - length place
 front_length bytes front place e = omega (arith, ap length e, length-append front place)
 
-same_fault : (bytes front other place last : Bytes) (k l : PageKind) → bytes ≡ front ++ place → bytes ≡ other ++ last → (k, place) ≡ (l, last) → fault_at (length front) k ≡ fault_at (length other) l
+same_fault : (bytes front other place last : Bytes) (k l : PageKind) → bytes ≡ front ++ place → bytes ≡ other ++ last → ◌≡◌ {A = PageKind × Bytes} (k, place) (l, last) → fault_at (length front) k ≡ fault_at (length other) l
 same_fault bytes front other place last k l e f same =
     let kinds : k ≡ l = ap (λ (x : PageKind × Bytes). x.0) same in
     let places : place ≡ last = ap (λ (x : PageKind × Bytes). x.1) same in
@@ -128,7 +128,7 @@ pub page_once : (bytes : Bytes) (pieces others : List Piece) → IsPage bytes pi
 page_once bytes pieces others a b = (reads_once bytes pieces others None None (page_reads bytes pieces a) (page_reads bytes others b)).0
 
 page_or_fault_at : (bytes : Bytes) (pieces others : List Piece) (f : PageFault) → Reads bytes pieces None → ReadsFault bytes others f → ⊥
-page_or_fault_at bytes pieces others f a (in_text kind front place b parts same) = none_some (kind, place) (reads_once bytes pieces others None (Some (kind, place)) a b).1
+page_or_fault_at bytes pieces others f a (in_text kind front place b parts same) = none_some {A = PageKind × Bytes} (kind, place) (reads_once bytes pieces others None (Some (kind, place)) a b).1
 page_or_fault_at bytes pieces others f a (before_text b) = no_text bytes a.0 others f a.1 b
 
 pub page_or_fault : (bytes : Bytes) (pieces others : List Piece) (f : PageFault) → IsPage bytes pieces → IsFaulty bytes others f → ⊥
@@ -137,7 +137,7 @@ page_or_fault bytes pieces others f a b = page_or_fault_at bytes pieces others f
 fault_once_at : (bytes : Bytes) (pieces others : List Piece) (f g : PageFault) → ReadsFault bytes pieces f → ReadsFault bytes others g → (pieces ≡ others) × (f ≡ g)
 fault_once_at bytes pieces others f g (in_text k front place a e same) (in_text l other last b d too) =
     let both = reads_once bytes pieces others (Some (k, place)) (Some (l, last)) a b in
-    (both.0, same ∙ (same_fault bytes front other place last k l e d (some_same (k, place) (l, last) both.1) ∙ sym too))
+    (both.0, same ∙ (same_fault bytes front other place last k l e d (some_same {A = PageKind × Bytes} (k, place) (l, last) both.1) ∙ sym too))
 fault_once_at bytes pieces others f g (in_text k front place a e same) (before_text b) = absurd (no_text bytes a.0 others g a.1 b)
 fault_once_at bytes pieces others f g (before_text a) (in_text l other last b d too) = absurd (no_text bytes b.0 pieces f b.1 a)
 fault_once_at bytes pieces others f g (before_text a) (before_text b) = no_text_once bytes pieces others f g a b
@@ -226,7 +226,7 @@ module _ (bytes : Bytes) (done : List Piece) (p : Progress) where
   met_stuck : (b : IsBetween bytes done p) (pieces : List Piece) (f g : PageFault) → ReadsFault bytes pieces f → IsStuck p g → (g ≡ f) × (pieces ≡ done)
   met_stuck b pieces f g (in_text kind front place r parts same) s =
       let l = stuck_left b pieces (Some (kind, place)) r g s in
-      let both = some_same (kind, place) (s.kind, s.rest) l.1 in
+      let both = some_same {A = PageKind × Bytes} (kind, place) (s.kind, s.rest) l.1 in
       let lengths : p.size - length s.rest ≡ length front =
       ap (λ n. n - length s.rest) b.size ∙ (ap (λ x. length bytes - length x) (sym (ap (λ (x : PageKind × Bytes). x.1) both)) ∙ sym (front_length bytes front place parts)) in
       let kinds : s.kind ≡ kind = sym (ap (λ (x : PageKind × Bytes). x.0) both) in

@@ -48,9 +48,9 @@ comment_err_at : (text : Bytes) (e : PageKind × Bytes) → spells (60 ∷ (33 �
     → ◌≡◌ {A = Outcome (List ℕ × Bytes)} (cond v (checked (with_line_ends (before (stops AtCommentEnd) (drop 4 text))) text >>= λ x. Ok (x, drop 3 (from (stops AtCommentEnd) (drop 4 text)))) (Err (Unclosed, text))) (Err e)
     → CommentFault text e.0 e.1
 comment_err_at text e m true f h =
-    by_first (bind_err (checked (with_line_ends (before (stops AtCommentEnd) (drop 4 text))) text) (λ x. Ok (x, drop 3 (from (stops AtCommentEnd) (drop 4 text)))) e h)
+    by_first (bind_err {B = List ℕ × Bytes} (checked (with_line_ends (before (stops AtCommentEnd) (drop 4 text))) text) (λ x. Ok (x, drop 3 (from (stops AtCommentEnd) (drop 4 text)))) e h)
   where
-    by_first : Refused (checked (with_line_ends (before (stops AtCommentEnd) (drop 4 text))) text) (λ x. Ok (x, drop 3 (from (stops AtCommentEnd) (drop 4 text)))) e → CommentFault text e.0 e.1
+    by_first : Refused {B = List ℕ × Bytes} (checked (with_line_ends (before (stops AtCommentEnd) (drop 4 text))) text) (λ x. Ok (x, drop 3 (from (stops AtCommentEnd) (drop 4 text)))) e → CommentFault text e.0 e.1
     by_first (at_first g) =
         let raw = before (stops AtCommentEnd) (drop 4 text) in
         let end = from (stops AtCommentEnd) (drop 4 text) in

@@ -62,7 +62,13 @@ fault_ends text nodes kind place pieces last f e =
 -- ---- places between pieces
 
 state_same : (s u : State) → s.rest ≡ u.rest → s.open_elements ≡ u.open_elements → s.next ≡ u.next → s.begun ≡ u.begun → s.writes ≡ u.writes → s.external ≡ u.external → s ≡ u
-state_same s u a b c d e f = cc
+state_same s u a b c d e f =
+    ap (λ (x : Bytes). record s { rest = x }) a
+    ∙ (ap (λ (x : List Open). record s { rest = u.rest; open_elements = x }) b
+    ∙ (ap (λ (x : ℕ). record s { rest = u.rest; open_elements = u.open_elements; next = x }) c
+    ∙ (ap (λ (x : Bool). record s { rest = u.rest; open_elements = u.open_elements; next = u.next; begun = x }) d
+    ∙ (ap (λ (x : List Request). record u { writes = x; external = s.external }) e
+    ∙ ap (λ (x : List (List ℕ)). record u { external = x }) f))))
 
 pub state_run : (text : Bytes) (done : List Piece) (s : State) → IsState text done s → Run (start text) done s
 state_run text done s i =

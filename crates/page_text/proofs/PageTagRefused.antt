@@ -60,16 +60,16 @@ stuck_as start mid d e same s = subst (StuckBy start mid) same s
 
 valued_err : (name : List ℕ) (raw at rest : Bytes) (e : PageKind × Bytes) → t.valued name raw at rest ≡ Err e → (TEXT_LIMIT < length (read_value raw)) × ((TooLong, at) ≡ e)
 unfolding t.valued
-valued_err name raw at rest e h = by_first (bind_err (checked (read_value raw) at) (λ v. Ok (t.attribute_of name v, rest)) e h)
+valued_err name raw at rest e h = by_first (bind_err {B = Attribute × Bytes} (checked (read_value raw) at) (λ v. Ok (t.attribute_of name v, rest)) e h)
   where
-    by_first : Refused (checked (read_value raw) at) (λ v. Ok (t.attribute_of name v, rest)) e → (TEXT_LIMIT < length (read_value raw)) × ((TooLong, at) ≡ e)
+    by_first : Refused {B = Attribute × Bytes} (checked (read_value raw) at) (λ v. Ok (t.attribute_of name v, rest)) e → (TEXT_LIMIT < length (read_value raw)) × ((TooLong, at) ≡ e)
     by_first (at_first g) = checked_err (read_value raw) at e g
     by_first (and_then x g k) = err_ok e _ (sym k)
 
 -- no such byte is left, so all are others
 pub none_left : (q : ℕ) (rest : Bytes) → begins (is_other q) rest ≡ false → sees q rest ≡ false → rest ≡ []
 none_left q [] h n = refl
-none_left q (b ∷ bs) h n = absurd (not_both (sym (rw n at h)))
+none_left q (b ∷ bs) h n = absurd (not_both (rw n at h))
 
 module _ (start mid gap here raw after : Bytes) where
   quoted_err_at : (name : List ℕ) (q : ℕ) (inside : Bytes) (e : PageKind × Bytes) → Named mid gap here raw after (q ∷ inside) → is_quote q ≡ true → (v : Bool) → sees q (from (stops (AtByte q)) inside) ≡ v

@@ -50,7 +50,7 @@ entities_are _ _ (entity {word = word} {bs = bs} {read = read} {c = c} is more) 
 entities_are _ _ (itself {b = b} {bs = bs} {read = read} h more) =
     ap (λ l. b ∷ l) (entities_are bs read more) ∙ sym (no_entity_first b bs (no_entity (b ∷ bs) h))
 
-pub read_as : Bool → Bytes → Bytes
+unfoldable pub read_as : Bool → Bytes → Bytes
 read_as entities raw = cond entities (read_value raw) (with_line_ends raw)
 
 pub read_is : (entities : Bool) (raw read : Bytes) → IsRead entities raw read → read ≡ read_as entities raw
