@@ -1,0 +1,9 @@
+use Rattle.page_text.proofs.PageFits.{document_fits}
+use Rattle.page_text.proofs.PageForests.{page_made}
+use Rattle.page_text.proofs.laws.a_page_makes_its_forest.Goals as goal
+
+pub returns-clause-forest : goal.returns-clause-forest
+returns-clause-forest c given bytes text nodes is document = (page_made given nodes (document_fits bytes text nodes is document)).built
+
+pub returns-clause-kept : goal.returns-clause-kept
+returns-clause-kept c given bytes text nodes is document = (page_made given nodes (document_fits bytes text nodes is document)).kept
