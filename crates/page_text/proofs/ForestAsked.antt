@@ -213,11 +213,11 @@ has_last f x kind h =
 -- ---- its attributes are set
 
 -- no two of these have one name, nor has one a name of those before
-pub Apart : List (List ℕ × List ℕ) → List Attribute → Type 0
+abbrev pub Apart : List (List ℕ × List ℕ) → List Attribute → Type 0
 Apart done [] = Unit {0}
 Apart done (a ∷ others) = (list_any (is_named a.name) done ≡ false) × Apart (done ++ pair_of a ∷ []) others
 
-pub AreFit : List Attribute → Type 0
+abbrev pub AreFit : List Attribute → Type 0
 AreFit [] = Unit {0}
 AreFit (a ∷ others) = FitsAttribute a × AreFit others
 

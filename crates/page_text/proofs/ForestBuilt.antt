@@ -79,7 +79,7 @@ asked-element parent number tag attributes inside behind =
 and_left : (a b : Bool) → a ≡ false → (a && b) ≡ false
 and_left a b e = rw e refl
 
-and_right : (a b : Bool) → b ≡ false → (a && b) ≡ false
+pub and_right : (a b : Bool) → b ≡ false → (a && b) ≡ false
 and_right true b e = e
 and_right false b e = refl
 
@@ -217,9 +217,11 @@ module _ (given : Origin) (s : Stage) where
       let document = has_document f h.forest (omega (arith, h.within)) in
       let create = makes_element given t tag document fit (may_create f few) in
       let set = makes_attributes given s f x attributes refl fits apart in
-      let last = makes_append f k p d kind.Element y h a refl refl in
-      (makes_then given t (Native DocumentCreateElement the_document (Str tag ∷ [])) _ (f ++ x ∷ []) _ create
-      (makes_both given (with_nodes s (f ++ x ∷ [])) (map (attribute_write (length f)) attributes) _ (with_nodes s (f ++ y ∷ [])) _ set last), a.forest)
+      let last = makes_append f k p d kind.Element y h a refl refl in (
+        makes_then given t (Native DocumentCreateElement the_document (Str tag ∷ [])) _ (f ++ x ∷ []) _ create
+            (makes_both given (with_nodes s (f ++ x ∷ [])) (map (attribute_write (length f)) attributes) _ (with_nodes s (f ++ y ∷ [])) _ set last),
+        a.forest,
+      )
 
   -- ---- nodes side by side
 
@@ -254,7 +256,7 @@ module _ (given : Origin) (s : Stage) where
       ∙ (ap (λ cs. grown f p cs (x ∷ nodes_from (suc (length f)) behind)) (sym numbers) ∙ ap (λ more. grown f p (numbers_from (length f) nodes) more) (sym rows)) in
       let all = makes_both given (with_nodes s f) requests _ (with_nodes s g) _ first later.makes in
       record {
-        makes = subst (λ rs. MakesAll given (with_nodes s f) rs _) (sym asks) (subst (λ (e : Forest). MakesAll given (with_nodes s f) (requests ++ asked (made_of (thing_of k p) (suc (length f)) behind)) (with_nodes s e)) again all);
+        makes = subst (λ rs. MakesAll given (with_nodes s f) rs (with_nodes s (grown f p (numbers_from (length f) nodes) (nodes_from (length f) nodes)))) (sym asks) (subst (λ (e : Forest). MakesAll given (with_nodes s f) (requests ++ asked (made_of (thing_of k p) (suc (length f)) behind)) (with_nodes s e)) again all);
         forest = subst IsForest again later.forest;
       }
 
@@ -288,7 +290,7 @@ module _ (given : Origin) (s : Stage) where
       let all = makes_both given (with_nodes s f) (element_writes n (thing_of k p) tag attributes) _ (with_nodes s one) _ first
       (makes_both given (with_nodes s one) (asked (made_of (thing_of kind.Element n) (suc n) inside)) (asked (made_of (thing_of k p) m behind)) (with_nodes s two) _ inner outer) in
       record {
-        makes = subst (λ rs. MakesAll given (with_nodes s f) rs _) (sym (asked-element (thing_of k p) n tag attributes inside behind)) all;
+        makes = subst (λ rs. MakesAll given (with_nodes s f) rs (with_nodes s (grown f p (n ∷ numbers_from m behind) (y ∷ (nodes_from (suc n) inside ++ nodes_from m behind))))) (sym (asked-element (thing_of k p) n tag attributes inside behind)) all;
         forest = subst IsForest again later.forest;
       }
 
@@ -314,6 +316,7 @@ module _ (given : Origin) (s : Stage) where
       → suc (length f + count inside) ≡ length e
   length_two f p d tag attributes inside e same =
       omega (arith, ap length same, length-grown f p (length f ∷ []) (host_node (Tagged tag) (map pair_of attributes) (numbers_from (suc (length f)) inside) ∷ nodes_from (suc (length f)) inside), length-nodes_from (suc (length f)) inside)
+
   pub parent_two : (f : Forest) (k : Kind) (p d : ℕ) (tag : List ℕ) (attributes : List Attribute) (inside : Nodes) (e : Forest)
       → e ≡ grown f p (length f ∷ []) (host_node (Tagged tag) (map pair_of attributes) (numbers_from (suc (length f)) inside) ∷ nodes_from (suc (length f)) inside)
       → Parent f k p d → IsForest e → Parent e k p d

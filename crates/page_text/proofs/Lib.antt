@@ -6,12 +6,14 @@ pub mod Names
 pub mod Once
 pub mod PageAnswered
 pub mod PageBreaks
+pub mod PageClean
 pub mod PageCounted
 pub mod PageCuts
 pub mod PageDocumentsOnce
 pub mod PageElementRuns
 pub mod PageElements
 pub mod PageEndFaults
+pub mod PageEscaped
 pub mod PageFacts
 pub mod PageFaultsAgain
 pub mod PageFits
@@ -41,6 +43,7 @@ pub mod PageRoom
 pub mod PageRuns
 pub mod PageRunsWhole
 pub mod PageScans
+pub mod PageShown
 pub mod PageStartFaults
 pub mod PageStartOnce
 pub mod PageStartTotal

@@ -51,7 +51,7 @@ far_space c far =
     or_from _ _ (ne c 9 (omega (arith, far))) (or_from _ _ (ne c 10 (omega (arith, far))) (or_from _ _ (ne c 12 (omega (arith, far)))
     (or_from _ _ (ne c 13 (omega (arith, far))) (ne c 32 (omega (arith, far))))))
 
-far_attribute : (c : ℕ) → 62 < c → is_attribute_byte c ≡ true
+pub far_attribute : (c : ℕ) → 62 < c → is_attribute_byte c ≡ true
 far_attribute c far =
     not_from_false _ (or_from _ _ (far_space c far) (or_from _ _ (ne c 34 (omega (arith, far))) (or_from _ _ (ne c 39 (omega (arith, far)))
     (or_from _ _ (ne c 62 (omega (arith, far))) (or_from _ _ (ne c 47 (omega (arith, far))) (or_from _ _ (ne c 61 (omega (arith, far))) (ne c 60 (omega (arith, far)))))))))
@@ -68,7 +68,7 @@ low_where q far b h = ⊎_elim (λ low. low) (λ high. absurd (both_ways _ (far 
 low_where_not : (q : ℕ → Bool) → ((c : ℕ) → 128 ≤ c → q c ≡ true) → (b : ℕ) → q b ≡ false → b < 128
 low_where_not q far b h = ⊎_elim (λ low. low) (λ high. absurd (both_ways _ h (far b high))) (cases_lt b 128)
 
-name_low : (b : ℕ) → is_name_byte b ≡ true → b < 128
+pub name_low : (b : ℕ) → is_name_byte b ≡ true → b < 128
 name_low b h = low_where is_name_byte (λ c far. far_name c (omega (arith, far))) b h
 
 space_low : (b : ℕ) → is_white_space b ≡ true → b < 128
@@ -77,7 +77,7 @@ space_low b h = low_where is_white_space (λ c far. far_space c (omega (arith, f
 quote_low : (b : ℕ) → is_quote b ≡ true → b < 128
 quote_low b h = low_where is_quote (λ c far. or_from _ _ (ne c 34 (omega (arith, far))) (ne c 39 (omega (arith, far)))) b h
 
-attribute_end_low : (b : ℕ) → is_attribute_byte b ≡ false → b < 128
+pub attribute_end_low : (b : ℕ) → is_attribute_byte b ≡ false → b < 128
 attribute_end_low b h = low_where_not is_attribute_byte (λ c far. far_attribute c (omega (arith, far))) b h
 
 unquoted_end_low : (b : ℕ) → is_unquoted b ≡ false → b < 128
@@ -87,7 +87,7 @@ pub all_weaker : (q r : ℕ → Bool) → ((b : ℕ) → q b ≡ true → r b �
 all_weaker q r h [] all = tt
 all_weaker q r h (b ∷ bs) all = (h b all.0, all_weaker q r h bs all.1)
 
-all_ascii : (bs : Bytes) → AreAll (λ b. nat_lt b 128) bs → IsAscii bs
+pub all_ascii : (bs : Bytes) → AreAll (λ b. nat_lt b 128) bs → IsAscii bs
 all_ascii [] all i = omega arith
 all_ascii (b ∷ bs) all zero = below_test b 128 all.0
 all_ascii (b ∷ bs) all (suc i) = all_ascii bs all.1 i
@@ -97,7 +97,7 @@ names_ascii raw all = all_weaker is_name_byte (λ b. nat_lt b 128) (λ b h. belo
 
 -- ---- lower case
 
-lower_keeps : (q : ℕ → Bool) → ((c : ℕ) → 97 ≤ c → c ≤ 122 → q c ≡ true) → (b : ℕ) → q b ≡ true → q (to_ascii_lowercase b) ≡ true
+pub lower_keeps : (q : ℕ → Bool) → ((c : ℕ) → 97 ≤ c → c ≤ 122 → q c ≡ true) → (b : ℕ) → q b ≡ true → q (to_ascii_lowercase b) ≡ true
 lower_keeps q letters b h =
     ⊎_elim (λ under. rw under h)
     (λ more. rw more (⊎_elim
@@ -124,13 +124,13 @@ pub lowered_all : (q : ℕ → Bool) → ((c : ℕ) → 97 ≤ c → c ≤ 122 �
 lowered_all q letters [] all = tt
 lowered_all q letters (b ∷ bs) all = (lower_keeps q letters b all.0, lowered_all q letters bs all.1)
 
-letter_small : (c : ℕ) → 97 ≤ c → c ≤ 122 → is_letter c ≡ true
+pub letter_small : (c : ℕ) → 97 ≤ c → c ≤ 122 → is_letter c ≡ true
 letter_small c lo hi = or_left _ _ (and_from _ _ (at_most 97 c lo) (at_most c 122 hi))
 
-name_small : (c : ℕ) → 97 ≤ c → c ≤ 122 → is_name_byte c ≡ true
+pub name_small : (c : ℕ) → 97 ≤ c → c ≤ 122 → is_name_byte c ≡ true
 name_small c lo hi = or_left _ _ (letter_small c lo hi)
 
-attribute_small : (c : ℕ) → 97 ≤ c → c ≤ 122 → is_attribute_byte c ≡ true
+pub attribute_small : (c : ℕ) → 97 ≤ c → c ≤ 122 → is_attribute_byte c ≡ true
 attribute_small c lo hi = far_attribute c (omega (arith, lo))
 
 -- ---- tags
@@ -212,9 +212,10 @@ fits_name raw h all some =
     let long : length (encodes (chars name)) ≡ length raw = ap length (encodes-chars name utf8) ∙ length-map raw to_ascii_lowercase in
     let good : list_all is_attribute_scalar (chars name) ≡ true =
     all_scalars is_attribute_scalar (λ c far. attribute_scalar c (far_attribute c (omega (arith, far)))) name utf8
-    (all_weaker is_attribute_byte is_attribute_scalar attribute_scalar name (lowered_all is_attribute_byte attribute_small raw all)) in
-    (name_good (chars name) (omega (arith, long, some)) good,
-     low_all (chars name) (all_scalars (λ c. nat_eq (to_ascii_lowercase c) c) (λ c far. eq-eqb _ _ (lower_high c far)) name utf8 (low_bytes raw)))
+    (all_weaker is_attribute_byte is_attribute_scalar attribute_scalar name (lowered_all is_attribute_byte attribute_small raw all)) in (
+      name_good (chars name) (omega (arith, long, some)) good,
+      low_all (chars name) (all_scalars (λ c. nat_eq (to_ascii_lowercase c) c) (λ c far. eq-eqb _ _ (lower_high c far)) name utf8 (low_bytes raw)),
+    )
 
 fits_attribute : (raw value : Bytes) → IsUtf8 raw → IsUtf8 value → AreAll is_attribute_byte raw → 0 < length raw → length (lowered raw) ≤ TEXT_LIMIT → length value ≤ TEXT_LIMIT
     → FitsAttribute (attribute_of (record { name = lowered raw; value = value }))
@@ -226,20 +227,20 @@ end_small : (q : ℕ → Bool) → ((b : ℕ) → q b ≡ false → b < 128) →
 end_small q low [] h = inl refl
 end_small q low (b ∷ bs) h = inr (below b 128 (low b h))
 
-run_parts : (q : ℕ → Bool) → ((b : ℕ) → q b ≡ false → b < 128) → (text run rest : Bytes) → Run q text run rest → IsUtf8 text → IsUtf8 run × IsUtf8 rest
+pub run_parts : (q : ℕ → Bool) → ((b : ℕ) → q b ≡ false → b < 128) → (text run rest : Bytes) → Run q text run rest → IsUtf8 text → IsUtf8 run × IsUtf8 rest
 run_parts q low text run rest r h = two_parts run rest (end_small q low rest r.longest) (subst IsUtf8 r.whole h)
 
-ascii_past : (q : ℕ → Bool) → ((b : ℕ) → q b ≡ true → b < 128) → (text run rest : Bytes) → Run q text run rest → IsUtf8 text → IsUtf8 rest
+pub ascii_past : (q : ℕ → Bool) → ((b : ℕ) → q b ≡ true → b < 128) → (text run rest : Bytes) → Run q text run rest → IsUtf8 text → IsUtf8 rest
 ascii_past q low text run rest r h = past_all run rest (all_weaker q (λ b. nat_lt b 128) (λ b e. below b 128 (low b e)) run r.all) (subst IsUtf8 r.whole h)
 
-space_past : (text gap rest : Bytes) → Space text gap rest → IsUtf8 text → IsUtf8 rest
+pub space_past : (text gap rest : Bytes) → Space text gap rest → IsUtf8 text → IsUtf8 rest
 space_past text gap rest r h = ascii_past is_white_space space_low text gap rest r h
 
-equals_past : (text rest : Bytes) → IsEquals text rest → IsUtf8 text → IsUtf8 rest
+pub equals_past : (text rest : Bytes) → IsEquals text rest → IsUtf8 text → IsUtf8 rest
 equals_past text rest (equals {before = b} {behind = d} {more = m} first second) h =
     space_past d m rest second (past_ascii 61 d (omega arith) (space_past text b (61 ∷ d) first h))
 
-value_parts : (text raw here rest : Bytes) → IsValue text raw here rest → IsUtf8 text → IsUtf8 raw × IsUtf8 rest
+pub value_parts : (text raw here rest : Bytes) → IsValue text raw here rest → IsUtf8 text → IsUtf8 raw × IsUtf8 rest
 value_parts text raw here rest (quoted {quote = q} mark e f all) h =
     let low = quote_low q mark in
     let inside : IsUtf8 (raw ++ q ∷ rest) = subst IsUtf8 f (past_ascii q here low (subst IsUtf8 e h)) in
@@ -249,7 +250,7 @@ value_parts text raw here rest (unquoted n run some) h = run_parts is_unquoted u
 
 attribute_fits : (text rest : Bytes) (a : ReadAttribute) → IsAttribute text a rest → IsUtf8 text → length a.name ≤ TEXT_LIMIT → length a.value ≤ TEXT_LIMIT
     → FitsAttribute (attribute_of a) × IsUtf8 rest
-attribute_fits text rest _ (bare {raw = raw} run some space no) h short small =
+attribute_fits text rest _ (bare {raw = raw} run some space bare_end) h short small =
     let parts = run_parts is_attribute_byte attribute_end_low text raw rest run h in
     (fits_attribute raw [] parts.0 IsUtf8-nil run.all some short small, parts.1)
 attribute_fits text rest _ (valued {raw = raw} {after_name = after} {at_value = at} {raw_value = x} {here = here} {value = value} run some sign is read) h short small =
@@ -283,11 +284,11 @@ filter_both p q (a ∷ xs) =
     (cases_Bool (q a))
 
 any_last : {X : Type 0} (f : X → Bool) (xs : List X) (y : X) → list_any f xs ≡ false → f y ≡ false → list_any f (xs ++ y ∷ []) ≡ false
-any_last f [] y none no = or_from _ _ no refl
-any_last f (x ∷ xs) y none no = let parts = Rattle.std.proofs.lemmas.Bool.or_parts _ _ none in or_from _ _ parts.0 (any_last f xs y parts.1 no)
+any_last f [] y none out = or_from _ _ out refl
+any_last f (x ∷ xs) y none out = let parts = Rattle.std.proofs.lemmas.Bool.or_parts _ _ none in or_from _ _ parts.0 (any_last f xs y parts.1 out)
 
-unlike : (x y : List ℕ) → bytes_eq x y ≡ false → bytes_eq y x ≡ false
-unlike x y no = false_from_ne_true _ (λ yes. both_ways _ no ((bytes_eq-Decides x y).1 (sym ((bytes_eq-Decides y x).0 yes))))
+pub unlike : (x y : List ℕ) → bytes_eq x y ≡ false → bytes_eq y x ≡ false
+unlike x y out = false_from_ne_true _ (λ yes. both_ways _ out ((bytes_eq-Decides x y).1 (sym ((bytes_eq-Decides y x).0 yes))))
 
 apart_filter : (p : Attribute → Bool) (done : List (List ℕ × List ℕ)) (xs : List Attribute) → ((b : Attribute) → p b ≡ true → list_any (is_named b.name) done ≡ false)
     → Apart done (filter p (first_of_each xs))
@@ -295,10 +296,12 @@ apart_filter p done [] free = tt
 apart_filter p done (a ∷ xs) free =
     let q : Attribute → Bool = λ b. not (bytes_eq b.name a.name) in
     ⊎_elim
-    (λ yes. subst (λ ys. Apart done ys) (sym (Rattle.std.proofs.lemmas.Bool.cond-true (p a) (a ∷ filter p (filter q (first_of_each xs))) (filter p (filter q (first_of_each xs))) yes))
-    (free a yes, subst (λ ys. Apart (done ++ pair_of a ∷ []) ys) (sym (filter_both p q (first_of_each xs)))
-    (apart_filter (λ b. q b && p b) (done ++ pair_of a ∷ []) xs
-    (λ b both. let parts = and_parts _ _ both in any_last (is_named b.name) done (pair_of a) (free b parts.1) (unlike b.name a.name (not-true _ parts.0))))))
+    (λ yes. subst (λ ys. Apart done ys) (sym (Rattle.std.proofs.lemmas.Bool.cond-true (p a) (a ∷ filter p (filter q (first_of_each xs))) (filter p (filter q (first_of_each xs))) yes)) (
+      free a yes,
+      subst (λ ys. Apart (done ++ pair_of a ∷ []) ys) (sym (filter_both p q (first_of_each xs)))
+          (apart_filter (λ b. q b && p b) (done ++ pair_of a ∷ []) xs
+          (λ b both. let parts = and_parts _ _ both in any_last (is_named b.name) done (pair_of a) (free b parts.1) (unlike b.name a.name (not-true _ parts.0)))),
+    ))
     (λ no. subst (λ ys. Apart done ys) (sym (Rattle.std.proofs.lemmas.Bool.cond-false (p a) (a ∷ filter p (filter q (first_of_each xs))) (filter p (filter q (first_of_each xs))) no ∙ filter_both p q (first_of_each xs)))
     (apart_filter (λ b. q b && p b) done xs (λ b both. free b (and_parts _ _ both).1)))
     (cases_Bool (p a))
@@ -331,9 +334,9 @@ end_past text _ rest (end_tag {inside = inside} {raw = raw} {after_name = after}
 
 pub comment_parts : (text content rest : Bytes) → IsComment text content rest → IsUtf8 text → IsUtf8 content × IsUtf8 rest
 comment_parts text content rest (tags.comment {inside = inside} {raw = raw} {end = end} e upto f read) h =
-    let within : IsUtf8 inside = past_all (codes "<!--") inside (refl, refl, refl, refl, tt) (subst IsUtf8 e h) in
+    let within : IsUtf8 inside = past_all (codes "<!--") inside (refl, (refl, (refl, (refl, tt)))) (subst IsUtf8 e h) in
     let parts = two_parts raw (codes "-->" ++ rest) (inr refl) (subst (λ x. IsUtf8 (raw ++ x)) f (subst IsUtf8 upto.whole within)) in
-    (read_utf8 false raw content read parts.0, past_all (codes "-->") rest (refl, refl, refl, tt) parts.1)
+    (read_utf8 false raw content read parts.0, past_all (codes "-->") rest (refl, (refl, (refl, tt))) parts.1)
 
 markup_small : (text : Bytes) → begins_markup text ≡ true → begins (λ b. nat_lt b 128) text ≡ true
 markup_small [] h = absurd (cc)
@@ -343,7 +346,7 @@ pub text_parts : (text raw rest : Bytes) → UpTo begins_markup text raw rest �
 text_parts text raw rest upto h =
     two_parts raw rest (⊎_elim (λ none. inl none) (λ some. inr (markup_small rest some)) upto.stop) (subst IsUtf8 upto.whole h)
 
-end_small_first : (text name rest : Bytes) → IsEndTag text name rest → begins (λ b. nat_lt b 128) text ≡ true
+pub end_small_first : (text name rest : Bytes) → IsEndTag text name rest → begins (λ b. nat_lt b 128) text ≡ true
 end_small_first text _ rest (end_tag e letter run space) = ap (begins (λ b. nat_lt b 128)) e
 
 -- ---- nodes
@@ -379,7 +382,7 @@ nodes_fit depth number text _ rest (grammar.normal_element {after_start = after}
     let later = nodes_fit depth (suc (number + count inside)) behind others rest more (end_past at_end t.name behind close inner.1) in
     ((room, tag.0, tag.1, tag.2, inner.0, later.0), later.1)
 
-doctype_past : (text rest : Bytes) → IsDoctype text rest → IsUtf8 text → IsUtf8 rest
+pub doctype_past : (text rest : Bytes) → IsDoctype text rest → IsUtf8 text → IsUtf8 rest
 doctype_past text rest (tags.doctype front begins e all) h =
     past_ascii 62 rest (omega arith) (two_parts front (62 ∷ rest) (inr refl) (subst IsUtf8 e h)).1
 
@@ -399,13 +402,13 @@ top_fits _ number text _ has_then rest (grammar.top_element {behind = behind} {t
 
 -- ---- pages
 
+encoded_mark : (text : Bytes) → 239 ∷ (187 ∷ (191 ∷ text)) ≡ encode 65279 ++ text
+unfolding encode
+encoded_mark text = refl
+
 mark_past : (bytes text : Bytes) → DropsMark bytes text → IsUtf8 bytes → IsUtf8 text
-mark_past _ text marked h = IsUtf8-past_char (239 ∷ (187 ∷ (191 ∷ text))) text 65279 h (encoded text)
-  where
-    encoded : (text : Bytes) → 239 ∷ (187 ∷ (191 ∷ text)) ≡ encode 65279 ++ text
-    unfolding encode
-    encoded text = refl
-mark_past _ _ (unmarked no) h = h
+mark_past _ text marked h = IsUtf8-past_char (239 ∷ (187 ∷ (191 ∷ text))) text 65279 h (encoded_mark text)
+mark_past _ _ (unmarked other) h = h
 
 pub text_utf8 : (bytes text : Bytes) → IsText bytes text → IsUtf8 text
 text_utf8 bytes text is = mark_past bytes text is.mark (IsUtf8-from_is_utf8 bytes is.utf8)

@@ -90,11 +90,11 @@ lines_behind x _ _ (return_and_line_feed {bs = bs} {read = read} more) h =
     between x 13 (10 ∷ bs) read 10 (omega arith) (omega arith) h (λ k. lines_behind [] bs read more (past_ascii 10 bs (omega arith) k))
 
 is_ascii : (word : Bytes) (c : ℕ) → IsEntity word c → AreAll (λ b. nat_lt b 128) word × (c < 128) × ((b : ℕ) × (more : Bytes) × (word ≡ b ∷ more) × (b < 128) × AreAll (λ b. nat_lt b 128) more)
-is_ascii _ _ amp = ((refl, refl, refl, refl, refl, tt), omega arith, (38, codes "amp;", refl, omega arith, (refl, refl, refl, refl, tt)))
-is_ascii _ _ lt = ((refl, refl, refl, refl, tt), omega arith, (38, codes "lt;", refl, omega arith, (refl, refl, refl, tt)))
-is_ascii _ _ gt = ((refl, refl, refl, refl, tt), omega arith, (38, codes "gt;", refl, omega arith, (refl, refl, refl, tt)))
-is_ascii _ _ quot = ((refl, refl, refl, refl, refl, refl, tt), omega arith, (38, codes "quot;", refl, omega arith, (refl, refl, refl, refl, refl, tt)))
-is_ascii _ _ apos = ((refl, refl, refl, refl, refl, refl, tt), omega arith, (38, codes "apos;", refl, omega arith, (refl, refl, refl, refl, refl, tt)))
+is_ascii _ _ amp = ((refl, (refl, (refl, (refl, (refl, tt))))), omega arith, (38, codes "amp;", refl, omega arith, (refl, (refl, (refl, (refl, tt))))))
+is_ascii _ _ lt = ((refl, (refl, (refl, (refl, tt)))), omega arith, (38, codes "lt;", refl, omega arith, (refl, (refl, (refl, tt)))))
+is_ascii _ _ gt = ((refl, (refl, (refl, (refl, tt)))), omega arith, (38, codes "gt;", refl, omega arith, (refl, (refl, (refl, tt)))))
+is_ascii _ _ quot = ((refl, (refl, (refl, (refl, (refl, (refl, tt)))))), omega arith, (38, codes "quot;", refl, omega arith, (refl, (refl, (refl, (refl, (refl, tt)))))))
+is_ascii _ _ apos = ((refl, (refl, (refl, (refl, (refl, (refl, tt)))))), omega arith, (38, codes "apos;", refl, omega arith, (refl, (refl, (refl, (refl, (refl, tt)))))))
 
 entities_behind : (x bs read : Bytes) → Entities bs read → IsUtf8 (x ++ bs) → IsUtf8 (x ++ read)
 entities_behind x _ _ no_character h = h
@@ -112,7 +112,7 @@ read_utf8 _ raw read (with_entities {lines = between} lines entities) h = entiti
 
 -- ---- lower case
 
-lower_high : (b : ℕ) → 128 ≤ b → to_ascii_lowercase b ≡ b
+pub lower_high : (b : ℕ) → 128 ≤ b → to_ascii_lowercase b ≡ b
 lower_high b high = grind (arith, nat_tests)
 
 lower_low : (b : ℕ) → b < 128 → to_ascii_lowercase b < 128
