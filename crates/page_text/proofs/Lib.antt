@@ -4,6 +4,7 @@ pub mod ForestBuilt
 pub mod ForestGrown
 pub mod Names
 pub mod Once
+pub mod PageAgain
 pub mod PageAnswered
 pub mod PageBreaks
 pub mod PageClean
@@ -33,6 +34,7 @@ pub mod PageOpenRuns
 pub mod PageOpened
 pub mod PageParts
 pub mod PagePlaces
+pub mod PagePrintedAgain
 pub mod PageRawRefusals
 pub mod PageRawRuns
 pub mod PageRaws

@@ -22,7 +22,7 @@ use Rattle.page_text.specs.Printed.{shown_attribute, value_scalar}
 use Rattle.page_text.proofs.Encoded.{value_encoded}
 use Rattle.page_text.proofs.ForestAsked.{Apart}
 use Rattle.page_text.proofs.PageEscaped.{all_both, escaped_read, read_free, value_free, value_spells, value_without}
-use Rattle.page_text.proofs.PageFits.{all_ascii, all_weaker, apart_first, ascii_past, attribute_end_low, equals_past, letter_first, letter_small, lower_keeps, lowered_all, lowered_twice, name_low, name_small, names_ascii, attribute_small, run_parts, space_past, value_parts}
+use Rattle.page_text.proofs.PageFits.{unlike, all_ascii, all_weaker, apart_first, ascii_past, attribute_end_low, equals_past, letter_first, letter_small, lower_keeps, lowered_all, lowered_twice, name_low, name_small, names_ascii, attribute_small, run_parts, space_past, value_parts}
 use Rattle.page_text.proofs.PageUtf8.{lowered_utf8, past_ascii, read_utf8}
 
 -- ---- what was read of a tag
@@ -141,10 +141,10 @@ tag_clean text rest _ (start_tag {inside = inside} {raw = raw} {after_name = aft
 -- ---- attributes again
 
 -- an attribute as it is read again
-abbrev read_of : (a : Attribute) → Clean a → ReadAttribute
+abbrev pub read_of : (a : Attribute) → Clean a → ReadAttribute
 read_of a c = record { name = c.name; value = c.value }
 
-reads_of : (xs : List Attribute) → AreClean xs → List ReadAttribute
+abbrev pub reads_of : (xs : List Attribute) → AreClean xs → List ReadAttribute
 reads_of [] clean = []
 reads_of (a ∷ xs) clean = record { name = (clean.0).name; value = (clean.0).value } ∷ reads_of xs clean.1
 

@@ -239,11 +239,14 @@ name_before [] _ _ r s all (lone_return other more) h = refl
 name_before [] _ _ r s all (return_and_line_feed more) h = refl
 name_before (w ∷ ws) _ _ r s all no_line h = absurd (both_ways _ (not_name 60 w refl refl all.0) (and_parts _ _ (and_parts _ _ h).0).0)
 name_before (w ∷ ws) _ _ r s all (in_line {b = b} {bs = bs} {read = read} other more) h =
-    let parts = and_parts _ _ h in
-    let first = and_parts _ _ parts.0 in
-    let rest = name_before ws bs read r s all.1 more (and_from _ _ first.1 parts.1) in
-    let both = and_parts _ _ rest in
-    and_from _ _ (and_from _ _ first.0 both.0) both.1
+    let name = opens ws (read ++ 60 ∷ r) in
+    let mark = begins is_behind_name (drop (length ws) (read ++ 60 ∷ r)) in
+    let parts = and_parts ((to_ascii_lowercase b == w) && name) mark h in
+    let first = and_parts (to_ascii_lowercase b == w) name parts.0 in
+    let rest = name_before ws bs read r s all.1 more (and_from name mark first.1 parts.1) in
+    let both = and_parts (opens ws (bs ++ 60 ∷ s)) (begins is_behind_name (drop (length ws) (bs ++ 60 ∷ s))) rest in
+    and_from ((to_ascii_lowercase b == w) && opens ws (bs ++ 60 ∷ s)) (begins is_behind_name (drop (length ws) (bs ++ 60 ∷ s)))
+    (and_from (to_ascii_lowercase b == w) (opens ws (bs ++ 60 ∷ s)) first.0 both.0) both.1
 name_before (w ∷ ws) _ _ r s all (lone_return other more) h = absurd (both_ways _ (not_name 10 w refl refl all.0) (and_parts _ _ (and_parts _ _ h).0).0)
 name_before (w ∷ ws) _ _ r s all (return_and_line_feed more) h = absurd (both_ways _ (not_name 10 w refl refl all.0) (and_parts _ _ (and_parts _ _ h).0).0)
 

@@ -123,6 +123,10 @@ page_made given nodes fit =
     let all = grows_top given.origin (start given) new_forest nodes false document_parent (λ e c child. absurd (Rattle.std.proofs.lemmas.Bool.both_ways _ (ap (is_among c) (childless 0)) child)) fit in
     subst (λ rs. MakesAll given.origin (start given) rs (with_nodes (start given) (forest_of nodes))) (sym (writes-cut (made_of the_document 1 nodes))) all.makes
 
-pub page_forest : (given : Setting) (nodes : Nodes) → TopFits false 1 nodes → IsForest (forest_of nodes)
-page_forest given nodes fit =
-    (grows_top given.origin (start given) new_forest nodes false document_parent (λ e c child. absurd (Rattle.std.proofs.lemmas.Bool.both_ways _ (ap (is_among c) (childless 0)) child)) fit).forest
+-- a run that is given nothing
+nothing : Setting
+nothing = record { origin = record { address = []; owners = []; grants = []; read_selector = λ text. None }; stores = []; clocks = [] }
+
+pub page_forest : (nodes : Nodes) → TopFits false 1 nodes → IsForest (forest_of nodes)
+page_forest nodes fit =
+    (grows_top nothing.origin (start nothing) new_forest nodes false document_parent (λ e c child. absurd (Rattle.std.proofs.lemmas.Bool.both_ways _ (ap (is_among c) (childless 0)) child)) fit).forest
