@@ -167,12 +167,14 @@ nodes_again bytes text nodes is (has, document) short =
     let given_free = document_fits bytes text nodes is (has, document) in
     let t = top_again false 1 text nodes has [] document (text_utf8 bytes text is) in
     let same : bytes_of nodes ≡ encodes (shown false nodes) = ap encodes (document_shown nodes (page_forest nodes given_free)) in
-    subst (λ x. IsText x x × IsDocument x nodes) (sym same)
-    (record {
-      short = subst (λ x. length x ≤ PAGE_LIMIT) same short;
-      utf8 = is_utf8-from_IsUtf8 (encodes (shown false nodes)) (shown false nodes, (t.good, refl));
-      mark = unmarked (no_mark (encodes (shown false nodes)) t.stops);
-    }, (has, t.top))
+    subst (λ x. IsText x x × IsDocument x nodes) (sym same) (
+      record {
+        short = subst (λ x. length x ≤ PAGE_LIMIT) same short;
+        utf8 = is_utf8-from_IsUtf8 (encodes (shown false nodes)) (shown false nodes, (t.good, refl));
+        mark = unmarked (no_mark (encodes (shown false nodes)) t.stops);
+      },
+      (has, t.top),
+    )
 
 pub page_again : (given : Setting) (bytes : Bytes) (pieces : List Piece) → IsPage bytes pieces → length (printed_page given pieces) ≤ PAGE_LIMIT → IsPage (printed_page given pieces) pieces
 page_again given bytes _ (page {text = text} {nodes = nodes} is document) short =

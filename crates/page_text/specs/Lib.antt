@@ -5,6 +5,7 @@ pub mod Outcomes
 pub mod PageFacts
 pub mod PageFaults
 pub mod PageForest
+pub mod PageForestFacts
 pub mod PageGrammar
 pub mod PageModel
 pub mod PageNodes
