@@ -2,13 +2,12 @@
 use Rattle.std.proofs.Common.{◌≡◌, ◌+◌, ◌-◌, ◌<◌, ◌≤◌, ◌≢◌, ℕ, Bool, true, false, not, ◌&&◌, List, [], ◌∷◌, ◌++◌, append-nil, length, length-append, refl, ap, sym, ◌∙◌, arith, Option, Some, None, ⊎_elim, subst, if◌then◌else◌}
 use Rattle.std.specs.Prelude.{map, nat_eq, nat_le, nat_lt, ◌||◌}
 use Rattle.std.specs.List.{list_all, list_any}
-use Rattle.std.proofs.lemmas.Bool.{both_ways, cases_Bool, ne_eqb, or_from}
+use Rattle.std.proofs.lemmas.Bool.{both_ways, ne_eqb, or_from}
 use Rattle.std.proofs.lemmas.Bool.Decides.{nat_tests}
 use Rattle.std.proofs.lemmas.List.{length_push, set_at}
 use Rattle.std.proofs.lemmas.List.Sums.{count_by-le-length}
 use Prim.Native.Nat.{zero, suc}
 use Rattle.door.specs.declared.limits.TheConstants as limits
-use Rattle.door.specs.declared.values.Actor.{Actor}
 use Rattle.door.specs.declared.values.Kind.{Kind}
 use Rattle.door.specs.declared.values.Kind.TheVariants.{Window, Document, Element, Str as StrKind, Comment, Event}
 use Rattle.door.specs.declared.values.Thing.{Thing}
@@ -20,7 +19,7 @@ use Rattle.door.specs.declared.requests.ErrorKind.{ErrorKind}
 use Rattle.door.specs.declared.requests.Request.{Request}
 use Rattle.door.specs.declared.requests.Request.TheVariants.{Native, Peek, PeekKeys, Reach}
 use Rattle.dom_semantics.specs.Bounds.{is_short}
-use Rattle.dom_semantics.specs.Changes.{create_refusal, created, insert_refusal, inserted, moved, removed, set_in, violates_document, with_attribute, with_children}
+use Rattle.dom_semantics.specs.Changes.{create_refusal, created, insert_refusal, inserted, set_in, violates_document, with_attribute}
 use Rattle.dom_semantics.specs.Fits.{are_of_sorts, is_request, signature}
 use Rattle.dom_semantics.specs.Forest.{DEPTH_LIMIT, NODE_LIMIT, Form, Tagged, Written, Noted, Node, Forest, IsForest, no_node, new_node, node_at, form_at, attributes_of, children_of, is_among, is_child, is_document, is_inclusive_ancestor, takes_children, depth_of, has_levels, made_by, parent_of, up_from, the_host}
 use Rattle.dom_semantics.specs.Grants.{is_granted}

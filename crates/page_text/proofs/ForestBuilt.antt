@@ -1,10 +1,10 @@
 -- The requests for the nodes of a page make the forest of these nodes.
-use Rattle.std.proofs.Common.{◌≡◌, ◌+◌, ◌<◌, ◌≤◌, ℕ, Bool, true, false, not, ◌&&◌, List, [], ◌∷◌, ◌++◌, append_assoc, append-nil, length, length-append, refl, ap, sym, ◌∙◌, arith, Option, Some, None, ⊎_elim, subst, cond}
-use Rattle.std.specs.Prelude.{map, nat_eq, ◌||◌, codes}
-use Rattle.std.specs.List.{flat_map, list_any}
+use Rattle.std.proofs.Common.{◌≡◌, ◌+◌, ◌<◌, ℕ, Bool, true, false, ◌&&◌, List, [], ◌∷◌, ◌++◌, length, length-append, refl, ap, sym, ◌∙◌, arith, Option, Some, None, subst, cond}
+use Rattle.std.specs.Prelude.{map, codes}
+use Rattle.std.specs.List.{list_any}
 use Rattle.std.proofs.lemmas.Bool.{cases_Bool, eq-eqb, eqb-true, or_cases, or_from, or_left, or_right}
 use Rattle.std.proofs.lemmas.List.{get_or_at, length-set, length_push}
-use Prim.Native.Nat.{zero, suc}
+use Prim.Native.Nat.{suc}
 use Rattle.door.specs.declared.limits.TheConstants as limits
 use Rattle.door.specs.declared.values.Kind.{Kind}
 use Rattle.door.specs.declared.values.Kind.TheVariants as kind
@@ -25,7 +25,7 @@ use Rattle.page_text.specs.Nodes.{appended, attribute_write, comment_writes, ele
 use Rattle.page_text.specs.PageForest.{host_node, nodes_from, numbers_from, pair_of}
 use Rattle.page_text.specs.PageGrammar.{HasRoom}
 use Rattle.page_text.specs.PageNodes.{Nodes, NoNodes, Element, Text, Comment, count, Made, Build, External, Script, made_of, made_at_end, external_of, text_inside}
-use Rattle.page_text.proofs.ForestGrown.{Chain, root, under, chain-kept, child-grown, children_of-grown_here, children_of-pushed, form_at-grown, grown, grown_again, grown_last, grown_nothing, holding, length-grown, node_at-front}
+use Rattle.page_text.proofs.ForestGrown.{under, chain-kept, child-grown, children_of-grown_here, children_of-pushed, form_at-grown, grown, grown_again, grown_last, grown_nothing, length-grown, node_at-front}
 use Rattle.page_text.proofs.ForestAsked.{Apart, Appends, AreFit, FitsTag, Makes, MakesAll, Parent, appends, has_document, has_parent, makes_attributes, makes_both, makes_child, makes_comment, makes_element, makes_none, makes_text, makes_then, may_create, has_last}
 
 -- ---- what is asked

@@ -1,12 +1,11 @@
 -- A forest that has grown: new nodes stand behind it, and some of them are the last children of one of its nodes.
-use Rattle.std.proofs.Common.{◌≡◌, ◌+◌, ◌<◌, ◌≤◌, ℕ, Bool, true, false, List, [], ◌∷◌, ◌++◌, append_assoc, append-nil, length, length-append, refl, ap, sym, ◌∙◌, arith, Option, Some, None, ⊎_elim, subst}
-use Rattle.std.specs.Prelude.{slice_set, ◌||◌}
+use Rattle.std.proofs.Common.{◌≡◌, ◌+◌, ◌<◌, ℕ, true, false, List, [], ◌∷◌, ◌++◌, append_assoc, append-nil, length, length-append, refl, ap, sym, ◌∙◌, arith, ⊎_elim, subst}
+use Rattle.std.specs.Prelude.{slice_set}
 use Rattle.std.proofs.lemmas.Bool.{cases_eq, both_ways, or_left, or_right}
 use Rattle.std.proofs.lemmas.List.{get_or_append_left, get_or_past, length-set, length_push, set-append_left, set-get_or, set-set, set_at}
-use Prim.Native.Nat.{zero, suc}
-use Rattle.dom_semantics.specs.Forest.{Form, Node, Forest, IsForest, no_node, node_at, form_at, children_of, is_among, is_child, is_document, depth_of, parent_of}
+use Prim.Native.Nat.{suc}
+use Rattle.dom_semantics.specs.Forest.{Node, Forest, IsForest, no_node, node_at, form_at, children_of, is_among, is_child, is_document, depth_of}
 use Rattle.dom_semantics.specs.Changes.{with_children}
-use Rattle.dom_tree.proofs.Lists.{is_among-push}
 use Rattle.dom_tree.proofs.NodeLemmas.{node_at-set_same, node_at-set_other, node_at-pushed, node_at-pushed_other}
 use Rattle.dom_tree.proofs.Parents.{ancestors_of-none, child-within, depth_of-some, own_parents}
 use Rattle.dom_tree.proofs.Trees.{no_parent, same_forest}

@@ -1,18 +1,16 @@
 -- What is printed of the nodes of a page is read as these nodes again.
-use Rattle.std.proofs.Common.{◌≡◌, ◌+◌, ◌<◌, ◌≤◌, ℕ, suc, Bool, true, false, not, cond, ◌&&◌, List, [], ◌∷◌, ◌++◌, append_assoc, append-nil, length, length-append, refl, ap, ap₂, sym, ◌∙◌, arith, Option, Some, None, ◌⊎◌, inl, inr, ⊎_elim, subst, codes}
+use Rattle.std.proofs.Common.{◌≡◌, ◌+◌, ◌<◌, ℕ, suc, Bool, true, false, not, cond, List, [], ◌∷◌, ◌++◌, append_assoc, append-nil, length, refl, ap, ap₂, sym, ◌∙◌, arith, Some, None, ◌⊎◌, inl, inr, ⊎_elim, subst, codes}
 use Rattle.std.specs.Prelude.{is_some, map, ◌||◌, ◌==◌}
 use Rattle.std.specs.List.{flat_map}
 use Rattle.std.specs.Str.{IsUtf8, chars, bytes_eq}
-use Rattle.std.proofs.lemmas.Bool.{and_parts, both_ways, cases_Bool, not-true, or_left, or_parts}
+use Rattle.std.proofs.lemmas.Bool.{both_ways, not-true, or_left, or_parts}
 use Rattle.std.proofs.lemmas.Slice.Eq.{bytes_eq-Decides}
 use Rattle.std.proofs.lemmas.Str.{encodes-append, encodes-chars}
 use lib.Utf8.{encode, encodes}
 use Rattle.dom_tree.proofs.Parents.{none≢some, some_same}
-use Rattle.base_text.specs.declared.text.TheConstants.{TEXT_LIMIT}
-use Rattle.page_text.specs.declared.tags.Attribute.{Attribute}
 use Rattle.page_text.specs.Bytes.{Bytes, is_letter, begins}
 use Rattle.page_text.specs.Nodes.{is_named, is_void}
-use Rattle.page_text.specs.PageSpelling.{AreAll, NowhereIn, UpTo, begins_markup, is_behind_mark, IsRead, as_it_stands, with_entities}
+use Rattle.page_text.specs.PageSpelling.{NowhereIn, UpTo, begins_markup, is_behind_mark, as_it_stands, with_entities}
 use Rattle.page_text.specs.PageTags as tags
 use Rattle.page_text.specs.PageTags.{StartTag, IsStartTag, start_tag, IsEndTag, end_tag, IsComment, IsShort, tag_of, attributes_of, begins_comment_end}
 use Rattle.page_text.specs.PageForest.{pair_of}

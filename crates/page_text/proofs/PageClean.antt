@@ -1,6 +1,6 @@
 -- Tags as they are printed are read as they are.
-use Rattle.std.proofs.Common.{◌≡◌, ◌+◌, ◌<◌, ◌≤◌, ℕ, Bool, true, false, not, ◌&&◌, List, [], ◌∷◌, ◌++◌, append_assoc, append-nil, length, refl, ap, ap₂, sym, ◌∙◌, arith, ◌⊎◌, inl, inr, ⊎_elim, subst, codes}
-use Rattle.std.specs.Prelude.{drop, map, nat_lt, ◌||◌, ◌==◌}
+use Rattle.std.proofs.Common.{◌≡◌, ◌<◌, ◌≤◌, ℕ, Bool, true, false, not, List, [], ◌∷◌, ◌++◌, append_assoc, length, refl, ap, ap₂, sym, ◌∙◌, arith, ⊎_elim, subst, codes}
+use Rattle.std.specs.Prelude.{drop, map}
 use Rattle.std.specs.Char.{to_ascii_lowercase}
 use Rattle.std.specs.List.{filter, flat_map, list_any}
 use Rattle.std.specs.Str.{IsUtf8, chars, bytes_eq}
@@ -13,16 +13,16 @@ use Rattle.dom_semantics.specs.Whitespace.{is_white_space}
 use Rattle.dom_tree.specs.Places.{is_named}
 use Rattle.page_text.specs.declared.tags.Attribute.{Attribute}
 use Rattle.page_text.specs.Bytes.{Bytes, is_letter, is_name_byte, is_attribute_byte, is_mark, begins, lowered, opens}
-use Rattle.page_text.specs.PageSpelling.{AreAll, Run, Space, is_other, IsRead}
-use Rattle.page_text.specs.PageTags.{ReadAttribute, IsEquals, equals, IsValue, quoted, IsAttribute, bare, valued, AreAttributes, no_more, one_more, attribute_of, first_of_each, StartTag, EndsTag, closed, IsStartTag, start_tag, tag_of, attributes_of, IsEndTag, end_tag, AreShort, IsShort}
+use Rattle.page_text.specs.PageSpelling.{AreAll, is_other}
+use Rattle.page_text.specs.PageTags.{ReadAttribute, equals, quoted, IsAttribute, bare, valued, AreAttributes, no_more, one_more, attribute_of, first_of_each, StartTag, closed, IsStartTag, start_tag, tag_of, attributes_of, IsEndTag, end_tag, AreShort, IsShort}
 use Rattle.page_text.specs.PageForest.{pair_of}
 use Rattle.page_text.specs.PageGrammar.{begins_end_of, is_behind_name}
 use Rattle.page_text.specs.Printed as shown
 use Rattle.page_text.specs.Printed.{shown_attribute, value_scalar}
 use Rattle.page_text.proofs.Encoded.{value_encoded}
 use Rattle.page_text.proofs.ForestAsked.{Apart}
-use Rattle.page_text.proofs.PageEscaped.{all_both, escaped_read, read_free, value_free, value_spells, value_without}
-use Rattle.page_text.proofs.PageFits.{unlike, all_ascii, all_weaker, apart_first, ascii_past, attribute_end_low, equals_past, letter_first, letter_small, lower_keeps, lowered_all, lowered_twice, name_low, name_small, names_ascii, attribute_small, run_parts, space_past, value_parts}
+use Rattle.page_text.proofs.PageEscaped.{escaped_read, read_free, value_free, value_spells, value_without}
+use Rattle.page_text.proofs.PageFits.{unlike, all_ascii, apart_first, ascii_past, attribute_end_low, equals_past, letter_first, letter_small, lower_keeps, lowered_all, lowered_twice, name_low, name_small, names_ascii, attribute_small, run_parts, space_past, value_parts}
 use Rattle.page_text.proofs.PageUtf8.{lowered_utf8, past_ascii, read_utf8}
 
 -- ---- what was read of a tag

@@ -1,13 +1,11 @@
 -- What is printed of texts, comments and values is read as they are.
 use Rattle.std.proofs.Common.{◌≡◌, ◌+◌, ◌<◌, ◌≤◌, ℕ, Bool, true, false, not, ◌&&◌, List, [], ◌∷◌, ◌++◌, append_assoc, append-nil, length, refl, ap, ap₂, sym, ◌∙◌, arith, ◌⊎◌, inl, inr, ⊎_elim, subst, codes, if◌then◌else◌}
-use Rattle.std.specs.Prelude.{drop, map, nat_eq, ◌||◌, ◌==◌}
+use Rattle.std.specs.Prelude.{drop, ◌==◌}
 use Rattle.std.specs.Char.{to_ascii_lowercase}
 use Rattle.std.specs.List.{flat_map}
-use Rattle.std.proofs.lemmas.Bool.{and_from, and_parts, both_ways, cases_Bool, eqb-true, false_from_ne_true, not-true, not_from_false, or_from, or_left}
-use Prim.Native.Nat.{zero, suc}
-use Rattle.dom_semantics.specs.Whitespace.{is_white_space}
-use Rattle.page_text.specs.Bytes.{Bytes, begins, is_name_byte, opens, sees}
-use Rattle.page_text.specs.PageSpelling.{AreAll, NowhereIn, UpTo, begins_with, begins_markup, begins_entity, is_other, LineEnds, no_line, in_line, lone_return, return_and_line_feed, IsEntity, amp, lt, gt, quot, apos, Entities, no_character, entity, itself, IsRead, as_it_stands, with_entities}
+use Rattle.std.proofs.lemmas.Bool.{and_from, and_parts, both_ways, cases_Bool, eqb-true, false_from_ne_true, not-true, not_from_false}
+use Rattle.page_text.specs.Bytes.{Bytes, begins, is_name_byte, opens}
+use Rattle.page_text.specs.PageSpelling.{AreAll, NowhereIn, begins_with, begins_markup, begins_entity, is_other, LineEnds, no_line, in_line, lone_return, return_and_line_feed, IsEntity, amp, lt, gt, quot, apos, Entities, no_character, entity, itself, IsRead, as_it_stands, with_entities}
 use Rattle.page_text.specs.PageTags.{begins_comment_end}
 use Rattle.page_text.specs.PageGrammar.{begins_end_of, is_behind_name}
 use Rattle.page_text.specs.Printed.{text_scalar, value_scalar}

@@ -1,14 +1,14 @@
 -- What the grammar reads of a text that is UTF-8 fits a forest: names are good, texts are short, attributes have names of their own.
 use Rattle.std.proofs.Common.{◌≡◌, ◌+◌, ◌<◌, ◌≤◌, ℕ, Bool, true, false, not, cond, ◌&&◌, List, [], ◌∷◌, ◌++◌, append_assoc, length, refl, ap, sym, ◌∙◌, arith, ◌⊎◌, inl, inr, ⊎_elim, subst, codes}
 use Rattle.std.specs.Prelude.{map, nat_eq, nat_le, nat_lt, ◌||◌, ◌==◌}
-use Rattle.std.specs.Char.{encode_utf8, to_ascii_lowercase}
+use Rattle.std.specs.Char.{to_ascii_lowercase}
 use Rattle.std.specs.List.{filter, list_all, list_any}
 use Rattle.std.specs.Str.{IsAscii, IsUtf8, chars, bytes_eq}
 use Rattle.std.proofs.lemmas.Bool.{and_from, and_parts, both_ways, cases_Bool, cases_lt, eq-eqb, eqb-true, false_from_ne_true, ne_eqb, not-true, not_from_false, or_from, or_left, or_right}
 use Rattle.std.proofs.lemmas.Bool.Decides.{nat_tests}
 use Rattle.std.proofs.lemmas.List.{length-map}
 use Rattle.std.proofs.lemmas.Slice.Eq.{bytes_eq-Decides}
-use Rattle.std.proofs.lemmas.Str.{IsUtf8-from_ascii, IsUtf8-from_is_utf8, IsUtf8-nil, IsUtf8-past_char, chars-IsAscii, chars-nil, encodes-chars}
+use Rattle.std.proofs.lemmas.Str.{IsUtf8-from_ascii, IsUtf8-from_is_utf8, IsUtf8-nil, IsUtf8-past_char, chars-IsAscii, encodes-chars}
 use lib.Utf8.{encodes, encode}
 use Prim.Native.Nat.{zero, suc}
 use Rattle.base_text.specs.declared.text.TheConstants.{TEXT_LIMIT}
@@ -18,14 +18,14 @@ use Rattle.dom_semantics.specs.Whitespace.{is_white_space}
 use Rattle.dom_tree.specs.Places.{is_named}
 use Rattle.page_text.specs.declared.tags.Attribute.{Attribute}
 use Rattle.page_text.specs.Bytes.{Bytes, is_letter, is_name_byte, is_attribute_byte, begins, lowered}
-use Rattle.page_text.specs.PageSpelling.{AreAll, Run, Space, UpTo, is_quote, is_unquoted, begins_markup, IsRead}
+use Rattle.page_text.specs.PageSpelling.{AreAll, Run, Space, UpTo, is_quote, is_unquoted, begins_markup}
 use Rattle.page_text.specs.PageTags.{ReadAttribute, IsEquals, equals, IsValue, quoted, unquoted, IsAttribute, bare, valued, AreAttributes, no_more, one_more, attribute_of, first_of_each, StartTag, EndsTag, closed, slashed, IsStartTag, start_tag, tag_of, attributes_of, IsEndTag, end_tag, IsComment, IsDoctype, AreShort, IsShort}
 use Rattle.page_text.specs.PageTags as tags
 use Rattle.page_text.specs.PageFaults.{DropsMark, marked, unmarked, IsText}
 use Rattle.page_text.specs.PageForest.{pair_of}
 use Rattle.page_text.specs.PageGrammar as grammar
 use Rattle.page_text.specs.PageGrammar.{IsTextInside, empty, filled, IsNodes, IsTop, IsDocument}
-use Rattle.page_text.specs.PageNodes.{Nodes, NoNodes, Element, Text, Comment, count}
+use Rattle.page_text.specs.PageNodes.{Nodes, NoNodes, Element, Comment, count}
 use Rattle.page_text.proofs.ForestAsked.{Apart, AreFit, FitsAttribute, FitsTag, below}
 use Rattle.page_text.proofs.ForestBuilt.{Fits, and_right}
 use Rattle.page_text.proofs.PageForests.{TopFits}

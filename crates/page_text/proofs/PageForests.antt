@@ -1,5 +1,5 @@
 -- The requests of a page make the forest of its nodes, from the document alone.
-use Rattle.std.proofs.Common.{◌≡◌, ◌+◌, ◌<◌, ◌≤◌, ℕ, Bool, true, false, not, ◌&&◌, List, [], ◌∷◌, ◌++◌, append_assoc, length, refl, ap, sym, ◌∙◌, arith, Option, Some, None, ⊎_elim, subst}
+use Rattle.std.proofs.Common.{◌≡◌, ◌+◌, ◌<◌, ℕ, Bool, true, false, List, [], ◌∷◌, length, refl, ap, sym, ◌∙◌, arith, None, ⊎_elim, subst}
 use Rattle.std.specs.Prelude.{map, ◌||◌}
 use Rattle.std.specs.List.{flat_map}
 use Rattle.std.proofs.lemmas.Bool.{cases_eq, or_cases, eqb-true}
@@ -7,22 +7,20 @@ use Prim.Native.Nat.{zero, suc}
 use Rattle.door.specs.declared.values.Kind.TheVariants as kind
 use Rattle.door.specs.declared.members.Member.TheVariants.{DocumentCreateComment}
 use Rattle.door.specs.declared.values.Value.TheVariants.{Str}
-use Rattle.door.specs.declared.requests.Request.{Request}
 use Rattle.door.specs.declared.requests.Request.TheVariants.{Native}
 use Rattle.dom_semantics.specs.Bounds.{is_short}
-use Rattle.dom_semantics.specs.Forest.{Form, Root, Tagged, Written, Noted, Node, Forest, IsForest, new_forest, new_node, node_at, form_at, children_of, is_child, is_among, is_document, is_element, parent_of, the_host, are_different}
+use Rattle.dom_semantics.specs.Forest.{Tagged, Noted, Node, Forest, IsForest, new_forest, new_node, form_at, children_of, is_child, is_among, is_document, is_element, the_host, are_different}
 use Rattle.dom_semantics.specs.Stage.{Origin, Stage, Setting, start, with_nodes}
 use Rattle.dom_tree.proofs.Lists.{is_among-push}
-use Rattle.dom_tree.proofs.Parents.{HasParents, child-within, forest_from}
-use Rattle.page_text.specs.declared.tags.Attribute.{Attribute}
+use Rattle.dom_tree.proofs.Parents.{forest_from}
 use Rattle.page_text.specs.declared.pieces.Piece.{Piece}
-use Rattle.page_text.specs.Nodes.{comment_writes, the_document, thing_of}
-use Rattle.page_text.specs.PageForest.{host_node, nodes_from, numbers_from, pair_of, forest_of, writes_of}
+use Rattle.page_text.specs.Nodes.{comment_writes, the_document}
+use Rattle.page_text.specs.PageForest.{host_node, pair_of, forest_of, writes_of}
 use Rattle.page_text.specs.PageGrammar.{HasRoom}
 use Rattle.page_text.specs.PageNodes.{Nodes, NoNodes, Element, Text, Comment, count, Made, Build, External, Script, made_of, cut, in_first, with_request, with_external, pieces_of}
-use Rattle.page_text.proofs.ForestGrown.{root, child-grown, children_of-grown_here, form_at-grown, grown, length-grown}
+use Rattle.page_text.proofs.ForestGrown.{root, children_of-grown_here, form_at-grown, grown, length-grown}
 use Rattle.page_text.proofs.ForestAsked.{Apart, AreFit, FitsTag, MakesAll, Parent, has_document, makes_comment, may_create}
-use Rattle.page_text.proofs.ForestBuilt.{Fits, Grows, HasNoElement, asked, asked-comment, at_number, grows, grows_element, grows_leaf, grows_none, last-grown, length-nodes_from, length_two, makes_leaf, makes_opened, parent-grown, parent-new, parent_two, room_below, stands_anywhere, stands_first}
+use Rattle.page_text.proofs.ForestBuilt.{Fits, Grows, HasNoElement, asked, asked-comment, at_number, grows, grows_element, grows_leaf, grows_none, last-grown, length_two, makes_leaf, makes_opened, parent-grown, parent-new, parent_two, room_below, stands_anywhere, stands_first}
 
 -- ---- pieces
 

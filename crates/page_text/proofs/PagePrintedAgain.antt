@@ -1,22 +1,22 @@
 -- What is printed of a page is a page of the same pieces again.
-use Rattle.std.proofs.Common.{◌≡◌, ◌+◌, ◌<◌, ◌≤◌, ℕ, suc, Bool, true, false, not, ◌&&◌, List, [], ◌∷◌, ◌++◌, append-nil, length, refl, ap, sym, ◌∙◌, arith, Option, Some, None, ◌⊎◌, inl, inr, ⊎_elim, subst, codes, if◌then◌else◌}
-use Rattle.std.specs.Prelude.{map, encode_utf8_all, ◌==◌}
+use Rattle.std.proofs.Common.{◌≡◌, ◌+◌, ◌≤◌, ℕ, suc, Bool, true, false, List, [], ◌∷◌, ◌++◌, append-nil, length, refl, ap, sym, ◌∙◌, inl, inr, subst, codes, if◌then◌else◌}
+use Rattle.std.specs.Prelude.{map, ◌==◌}
 use Rattle.std.specs.List.{flat_map}
 use Rattle.std.specs.Str.{IsUtf8, chars}
 use Rattle.std.proofs.lemmas.Bool.{and_from, and_parts, eqb-true}
 use Rattle.std.proofs.lemmas.Str.{encodes-append, is_utf8-from_IsUtf8, scalars-chars}
 use lib.Utf8.{encodes, scalar, scalars}
 use Rattle.door.specs.declared.limits.TheConstants.{PAGE_LIMIT}
-use Rattle.dom_semantics.specs.Stage.{Setting, Stage, start, with_nodes}
+use Rattle.dom_semantics.specs.Stage.{Setting, Stage}
 use Rattle.page_text.specs.declared.pieces.Piece.{Piece}
 use Rattle.page_text.specs.declared.tags.Attribute.{Attribute}
 use Rattle.page_text.specs.Bytes.{Bytes}
 use Rattle.page_text.specs.Nodes.{is_void}
-use Rattle.page_text.specs.PageFaults.{DropsMark, unmarked, IsText, IsPage, page}
-use Rattle.page_text.specs.PageForest.{forest_of, pair_of}
+use Rattle.page_text.specs.PageFaults.{unmarked, IsText, IsPage, page}
+use Rattle.page_text.specs.PageForest.{pair_of}
 use Rattle.page_text.specs.PageGrammar as grammar
 use Rattle.page_text.specs.PageGrammar.{IsNodes, IsTop, IsDocument}
-use Rattle.page_text.specs.PageNodes.{Nodes, NoNodes, Element, Text, Comment, count, pieces_of}
+use Rattle.page_text.specs.PageNodes.{Nodes, NoNodes, Element, Comment, count, pieces_of}
 use Rattle.page_text.specs.PagePrinted.{bytes_of, printed_page}
 use Rattle.page_text.specs.PageSpelling.{begins_markup, begins_with}
 use Rattle.page_text.specs.PageTags.{StartTag, tag_of, attributes_of}

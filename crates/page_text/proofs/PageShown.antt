@@ -1,14 +1,13 @@
 -- What is printed of the forest of a page's nodes, as a fold down the nodes.
-use Rattle.std.proofs.Common.{◌≡◌, ◌+◌, ◌<◌, ◌≤◌, ℕ, Bool, true, false, List, [], ◌∷◌, ◌++◌, append_assoc, append-nil, length, length-append, refl, ap, ap₂, sym, ◌∙◌, arith, Option, Some, None, subst}
-use Rattle.std.specs.Prelude.{map, nat_eq, ◌||◌}
+use Rattle.std.proofs.Common.{◌≡◌, ◌+◌, ℕ, Bool, true, false, List, [], ◌∷◌, ◌++◌, append_assoc, append-nil, length, length-append, refl, ap, ap₂, sym, ◌∙◌, arith}
+use Rattle.std.specs.Prelude.{map}
 use Rattle.std.specs.List.{flat_map}
 use Rattle.std.specs.Option.{option_map_or}
 use Rattle.std.proofs.lemmas.Bool.{eq-eqb, or_left, or_right}
 use Rattle.std.proofs.lemmas.List.{get_or_at}
-use Prim.Native.Nat.{zero, suc}
-use Rattle.dom_semantics.specs.Forest.{Form, Root, Tagged, Written, Noted, Node, Forest, IsForest, no_node, node_at, form_at, attributes_of, children_of, is_among, is_child, parent_of}
+use Prim.Native.Nat.{suc}
+use Rattle.dom_semantics.specs.Forest.{Root, Tagged, Written, Noted, Node, Forest, IsForest, no_node, node_at, form_at, is_among, is_child}
 use Rattle.dom_tree.proofs.Parents.{own_parents}
-use Rattle.page_text.specs.declared.tags.Attribute.{Attribute}
 use Rattle.page_text.specs.PageForest.{host_node, nodes_from, numbers_from, pair_of, forest_of}
 use Rattle.page_text.specs.PageNodes.{Nodes, NoNodes, Element, Text, Comment, count}
 use Rattle.page_text.specs.Printed.{around, has_raw_texts, is_raw, printed, shown_comment, shown_element, shown_text, stands_raw}

@@ -1,14 +1,13 @@
 -- The parts of a page's text are UTF-8, and so is what is read of them.
-use Rattle.std.proofs.Common.{◌≡◌, ◌+◌, ◌<◌, ◌≤◌, ℕ, Bool, true, false, not, cond, ◌&&◌, List, [], ◌∷◌, ◌++◌, append_assoc, append-nil, length, length-append, get_or, take, drop, refl, ap, sym, ◌∙◌, arith, ◌⊎◌, inl, inr, ⊎_elim, subst, codes}
-use Rattle.std.specs.Prelude.{map, nat_eq, nat_le, nat_lt, ◌||◌, ◌==◌}
-use Rattle.std.specs.Char.{encode_utf8, to_ascii_lowercase}
+use Rattle.std.proofs.Common.{◌≡◌, ◌<◌, ◌≤◌, ℕ, Bool, true, List, [], ◌∷◌, ◌++◌, append_assoc, append-nil, length, length-append, get_or, take, drop, refl, ap, sym, ◌∙◌, arith, ◌⊎◌, inl, inr, ⊎_elim, subst, codes}
+use Rattle.std.specs.Prelude.{nat_lt}
+use Rattle.std.specs.Char.{to_ascii_lowercase}
 use Rattle.std.specs.List.{list_all}
-use Rattle.std.specs.Str.{IsAscii, IsCharBoundary, IsUtf8, chars}
-use Rattle.std.proofs.lemmas.Bool.{and_from, cases_Bool, cases_lt, eqb-true}
+use Rattle.std.specs.Str.{IsCharBoundary, IsUtf8, chars}
+use Rattle.std.proofs.lemmas.Bool.{and_from, cases_Bool, cases_lt}
 use Rattle.std.proofs.lemmas.Bool.Decides.{nat_tests}
-use Rattle.std.proofs.lemmas.Str.{IsCharBoundary-before_ascii, IsCharBoundary-after_ascii, IsUtf8-append, IsUtf8-drop, IsUtf8-take, IsUtf8-from_ascii, IsUtf8-nil, encode_ascii, encodes-chars}
+use Rattle.std.proofs.lemmas.Str.{IsCharBoundary-before_ascii, IsCharBoundary-after_ascii, IsUtf8-append, IsUtf8-drop, IsUtf8-take, IsUtf8-nil, encode_ascii, encodes-chars}
 use lib.Utf8.{encode, encodes, scalars}
-use Prim.Native.Nat.{zero, suc}
 use Rattle.base_text.specs.Scalars.{utf8_len}
 use Rattle.page_text.specs.Bytes.{Bytes, begins, lowered}
 use Rattle.page_text.specs.PageSpelling.{AreAll, LineEnds, no_line, in_line, lone_return, return_and_line_feed, IsEntity, amp, lt, gt, quot, apos, Entities, no_character, entity, itself, IsRead, as_it_stands, with_entities}

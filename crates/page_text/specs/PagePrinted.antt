@@ -1,5 +1,5 @@
 -- A page is printed: the text of the forest that its pieces make (HTML, Serializing HTML fragments).
-use Rattle.std.specs.Prelude.{ℕ, List, encode_utf8_all}
+use Rattle.std.specs.Prelude.{List, encode_utf8_all}
 use Rattle.dom_semantics.specs.Stage.{Setting, start}
 use Rattle.page_text.specs.declared.pieces.Piece.{Piece}
 use Rattle.page_text.specs.Bytes.{Bytes}
