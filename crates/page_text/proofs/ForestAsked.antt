@@ -1,6 +1,6 @@
 -- What the host is asked of a page has a reply that refuses nothing.
-use Rattle.std.proofs.Common.{◌≡◌, ◌+◌, ◌-◌, ◌<◌, ◌≤◌, ◌≢◌, ℕ, Bool, true, false, not, ◌&&◌, List, [], ◌∷◌, ◌++◌, append-nil, length, length-append, refl, ap, sym, ◌∙◌, arith, Option, Some, None, ⊎_elim, subst, if◌then◌else◌}
-use Rattle.std.specs.Prelude.{map, nat_eq, nat_le, nat_lt, ◌||◌}
+use Rattle.std.proofs.Common.{◌≡◌, ◌+◌, ◌-◌, ◌<◌, ◌≢◌, ℕ, Bool, true, false, not, ◌&&◌, List, [], ◌∷◌, ◌++◌, append-nil, length, refl, ap, sym, ◌∙◌, arith, Option, Some, None, ⊎_elim, subst, if◌then◌else◌, append_assoc}
+use Rattle.std.specs.Prelude.{map, nat_eq, nat_lt, slice_set}
 use Rattle.std.specs.List.{list_all, list_any}
 use Rattle.std.proofs.lemmas.Bool.{both_ways, ne_eqb, or_from}
 use Rattle.std.proofs.lemmas.Bool.Decides.{nat_tests}
@@ -21,7 +21,7 @@ use Rattle.door.specs.declared.requests.Request.TheVariants.{Native, Peek, PeekK
 use Rattle.dom_semantics.specs.Bounds.{is_short}
 use Rattle.dom_semantics.specs.Changes.{create_refusal, created, insert_refusal, inserted, set_in, violates_document, with_attribute}
 use Rattle.dom_semantics.specs.Fits.{are_of_sorts, is_request, signature}
-use Rattle.dom_semantics.specs.Forest.{DEPTH_LIMIT, NODE_LIMIT, Form, Tagged, Written, Noted, Node, Forest, IsForest, no_node, new_node, node_at, form_at, attributes_of, children_of, is_among, is_child, is_document, is_inclusive_ancestor, takes_children, depth_of, has_levels, made_by, parent_of, up_from, the_host}
+use Rattle.dom_semantics.specs.Forest.{DEPTH_LIMIT, NODE_LIMIT, Form, Tagged, Written, Noted, Node, Forest, IsForest, node_at, form_at, children_of, is_among, is_child, is_document, is_inclusive_ancestor, takes_children, depth_of, has_levels, made_by, parent_of, up_from, the_host, Root}
 use Rattle.dom_semantics.specs.Grants.{is_granted}
 use Rattle.dom_semantics.specs.Names.{is_attribute_name, is_tag, lower}
 use Rattle.dom_semantics.specs.Reply.{Reply, gives, unless}
@@ -39,6 +39,7 @@ use Rattle.page_text.specs.declared.tags.Attribute.{Attribute}
 use Rattle.page_text.specs.Nodes.{appended, attribute_write, the_document}
 use Rattle.page_text.specs.PageForest.{AreKept, IsKept, built_all, pair_of}
 use Rattle.page_text.proofs.ForestGrown.{Chain, chain-kept, children_of-pushed, depth-chain, forest-pushed, grown, grown_first, node_at-front}
+use Rattle.door.specs.declared.requests.ErrorKind.TheVariants.{Hierarchy, NotFound, TooDeep}
 
 -- ---- replies
 
@@ -195,7 +196,7 @@ may_create f few =
     rw less refl
 
 document_kind : (form : Form) → is_document form ≡ true → is_kind (kind_of_form form) Document ≡ true
-document_kind Rattle.dom_semantics.specs.Forest.Root h = refl
+document_kind Root h = refl
 document_kind (Tagged tag) h = absurd (cc)
 document_kind (Written text) h = absurd (cc)
 document_kind (Noted text) h = absurd (cc)
@@ -227,8 +228,8 @@ bearing x attributes = record x { attributes = attributes }
 attribute_set : (f : Forest) (x : Node) (name value : List ℕ) → list_any (is_named name) x.attributes ≡ false
     → with_attribute (f ++ x ∷ []) (length f) name value ≡ f ++ bearing x (x.attributes ++ (name, value) ∷ []) ∷ []
 attribute_set f x name value new =
-    ap (λ (y : Node). Rattle.std.specs.Prelude.slice_set (f ++ x ∷ []) (length f) (bearing y (set_in name value y.attributes))) (node_at-pushed f x)
-    ∙ (ap (λ attributes. Rattle.std.specs.Prelude.slice_set (f ++ x ∷ []) (length f) (bearing x attributes)) (set_in-none name value x.attributes new)
+    ap (λ (y : Node). slice_set (f ++ x ∷ []) (length f) (bearing y (set_in name value y.attributes))) (node_at-pushed f x)
+    ∙ (ap (λ attributes. slice_set (f ++ x ∷ []) (length f) (bearing x attributes)) (set_in-none name value x.attributes new)
     ∙ set_at f x [] (bearing x (x.attributes ++ (name, value) ∷ [])) (length f) refl)
 
 pub makes_attributes : (given : Origin) (s : Stage) (f : Forest) (x : Node) (attributes : List Attribute) → is_kind (kind_of_form x.form) Element ≡ true
@@ -244,7 +245,7 @@ makes_attributes given s f x (a ∷ others) kind fit apart =
     (makes_attribute given t (length f) a (has_last f x Element kind) fit.0) in
     let rest = makes_attributes given s f y others kind fit.1 apart.1 in
     let whole : (x.attributes ++ pair_of a ∷ []) ++ map pair_of others ≡ x.attributes ++ map pair_of (a ∷ others) =
-    Rattle.std.proofs.Common.append_assoc x.attributes (pair_of a ∷ []) (map pair_of others) in
+    append_assoc x.attributes (pair_of a ∷ []) (map pair_of others) in
     subst (λ ys. MakesAll given t (map (attribute_write (length f)) (a ∷ others)) (with_nodes s (f ++ bearing x ys ∷ []))) whole
     (makes_then given t (attribute_write (length f) a) (map (attribute_write (length f)) others) (f ++ y ∷ []) _ one rest)
 
@@ -278,10 +279,10 @@ unfolding DEPTH_LIMIT
 same_limit = refl
 
 refused_none : (a b c d : Bool) → a ≡ false → b ≡ true → c ≡ false → d ≡ false
-    → (if a then Some Rattle.door.specs.declared.requests.ErrorKind.TheVariants.Hierarchy
-    else (if not b then Some Rattle.door.specs.declared.requests.ErrorKind.TheVariants.NotFound
-    else (if c then Some Rattle.door.specs.declared.requests.ErrorKind.TheVariants.Hierarchy
-    else (if d then Some Rattle.door.specs.declared.requests.ErrorKind.TheVariants.TooDeep else None)))) ≡ None
+    → (if a then Some Hierarchy
+    else (if not b then Some NotFound
+    else (if c then Some Hierarchy
+    else (if d then Some TooDeep else None)))) ≡ None
 refused_none a b c d e f g h = rw (e, f, g, h) refl
 
 -- a node behind the forest, which has no children, may be appended to this parent, and then is its last child

@@ -2,7 +2,7 @@
 use Rattle.std.proofs.Common.{◌≡◌, ◌+◌, ◌<◌, ℕ, Bool, true, false, ◌&&◌, List, [], ◌∷◌, ◌++◌, length, length-append, refl, ap, sym, ◌∙◌, arith, Option, Some, None, subst, cond}
 use Rattle.std.specs.Prelude.{map, codes}
 use Rattle.std.specs.List.{list_any}
-use Rattle.std.proofs.lemmas.Bool.{cases_Bool, eq-eqb, eqb-true, or_cases, or_from, or_left, or_right}
+use Rattle.std.proofs.lemmas.Bool.{eq-eqb, or_from, or_left, or_right, and_from}
 use Rattle.std.proofs.lemmas.List.{get_or_at, length-set, length_push}
 use Prim.Native.Nat.{suc}
 use Rattle.door.specs.declared.limits.TheConstants as limits
@@ -16,7 +16,7 @@ use Rattle.door.specs.declared.requests.Request.TheVariants.{Native}
 use Rattle.dom_semantics.specs.Bounds.{is_short}
 use Rattle.dom_semantics.specs.Changes.{created, violates_document, with_children}
 use Rattle.dom_semantics.specs.Forest.{Form, Root, Tagged, Written, Noted, Node, Forest, IsForest, no_node, new_node, node_at, form_at, children_of, is_among, is_child, is_document, is_element, is_text, takes_children, the_host}
-use Rattle.dom_semantics.specs.Stage.{Origin, Stage, with_nodes}
+use Rattle.dom_semantics.specs.Stage.{Origin, Stage, with_nodes, has_node}
 use Rattle.dom_semantics.specs.Things.{is_kind, is_node_kind, kind_of_form, thing_of}
 use Rattle.dom_tree.proofs.Lists.{is_among-push}
 use Rattle.dom_tree.proofs.NodeLemmas.{node_at-pushed}
@@ -26,7 +26,7 @@ use Rattle.page_text.specs.PageForest.{host_node, nodes_from, numbers_from, pair
 use Rattle.page_text.specs.PageGrammar.{HasRoom}
 use Rattle.page_text.specs.PageNodes.{Nodes, NoNodes, Element, Text, Comment, count, Made, Build, External, Script, made_of, made_at_end, external_of, text_inside}
 use Rattle.page_text.proofs.ForestGrown.{under, chain-kept, child-grown, children_of-grown_here, children_of-pushed, form_at-grown, grown, grown_again, grown_last, grown_nothing, length-grown, node_at-front}
-use Rattle.page_text.proofs.ForestAsked.{Apart, Appends, AreFit, FitsTag, Makes, MakesAll, Parent, appends, has_document, has_parent, makes_attributes, makes_both, makes_child, makes_comment, makes_element, makes_none, makes_text, makes_then, may_create, has_last}
+use Rattle.page_text.proofs.ForestAsked.{Apart, Appends, AreFit, FitsTag, Makes, MakesAll, Parent, appends, has_document, makes_attributes, makes_both, makes_child, makes_comment, makes_element, makes_none, makes_text, makes_then, may_create, has_last, below}
 
 -- ---- what is asked
 
@@ -188,9 +188,9 @@ module _ (given : Origin) (s : Stage) where
       subst (λ (forest : Forest). Makes given t request forest) a.same (makes_child given t k p child (length f) h.node node there (has_last f x child kinds) a.free) in
       makes_then given t request [] (grown f p (length f ∷ []) (x ∷ [])) (with_nodes s (grown f p (length f ∷ []) (x ∷ []))) one (makes_none given (with_nodes s (grown f p (length f ∷ []) (x ∷ []))))
     where
-      has_parent_front : (f : Forest) (k : Kind) (p d : ℕ) (x : Node) → Parent f k p d → Rattle.dom_semantics.specs.Stage.has_node (f ++ x ∷ []) (thing_of k p) ≡ true
+      has_parent_front : (f : Forest) (k : Kind) (p d : ℕ) (x : Node) → Parent f k p d → has_node (f ++ x ∷ []) (thing_of k p) ≡ true
       has_parent_front f k p d x h =
-          Rattle.std.proofs.lemmas.Bool.and_from _ _ (Rattle.page_text.proofs.ForestAsked.below p (length (f ++ x ∷ [])) (omega (arith, h.within, length_push f x)))
+          and_from _ _ (below p (length (f ++ x ∷ [])) (omega (arith, h.within, length_push f x)))
           (ap (λ form. is_kind (kind_of_form form) k) (front_form f x p h.within) ∙ h.kinds)
 
   -- a text or a comment is made and appended

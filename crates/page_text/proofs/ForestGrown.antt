@@ -1,7 +1,7 @@
 -- A forest that has grown: new nodes stand behind it, and some of them are the last children of one of its nodes.
 use Rattle.std.proofs.Common.{◌≡◌, ◌+◌, ◌<◌, ℕ, true, false, List, [], ◌∷◌, ◌++◌, append_assoc, append-nil, length, length-append, refl, ap, sym, ◌∙◌, arith, ⊎_elim, subst}
 use Rattle.std.specs.Prelude.{slice_set}
-use Rattle.std.proofs.lemmas.Bool.{cases_eq, both_ways, or_left, or_right}
+use Rattle.std.proofs.lemmas.Bool.{cases_eq, or_left, or_right, or_cases}
 use Rattle.std.proofs.lemmas.List.{get_or_append_left, get_or_past, length-set, length_push, set-append_left, set-get_or, set-set, set_at}
 use Prim.Native.Nat.{suc}
 use Rattle.dom_semantics.specs.Forest.{Node, Forest, IsForest, no_node, node_at, form_at, children_of, is_among, is_child, is_document, depth_of}
@@ -77,7 +77,7 @@ form_at-grown f p cs more q lt =
 among_front : (c : ℕ) (xs ys : List ℕ) → is_among c xs ≡ true → is_among c (xs ++ ys) ≡ true
 among_front c [] ys h = absurd (cc)
 among_front c (x ∷ xs) ys h =
-    ⊎_elim (λ yes. or_left _ _ yes) (λ rest. or_right _ _ (among_front c xs ys rest)) (Rattle.std.proofs.lemmas.Bool.or_cases _ _ h)
+    ⊎_elim (λ yes. or_left _ _ yes) (λ rest. or_right _ _ (among_front c xs ys rest)) (or_cases _ _ h)
 
 pub children_of-grown_here : (f : Forest) (p : ℕ) (cs : List ℕ) (more : Forest) → p < length f → children_of (grown f p cs more) p ≡ children_of f p ++ cs
 children_of-grown_here f p cs more lt =

@@ -1,6 +1,6 @@
 -- What is printed of the nodes of a page is read as these nodes again.
 use Rattle.std.proofs.Common.{◌≡◌, ◌+◌, ◌<◌, ℕ, suc, Bool, true, false, not, cond, List, [], ◌∷◌, ◌++◌, append_assoc, append-nil, length, refl, ap, ap₂, sym, ◌∙◌, arith, Some, None, ◌⊎◌, inl, inr, ⊎_elim, subst, codes}
-use Rattle.std.specs.Prelude.{is_some, map, ◌||◌, ◌==◌}
+use Rattle.std.specs.Prelude.{is_some, map, ◌||◌, if◌then◌else◌}
 use Rattle.std.specs.List.{flat_map}
 use Rattle.std.specs.Str.{IsUtf8, chars, bytes_eq}
 use Rattle.std.proofs.lemmas.Bool.{both_ways, not-true, or_left, or_parts}
@@ -22,7 +22,7 @@ use Rattle.page_text.specs.Printed.{is_raw, shown_comment, shown_element, shown_
 use Rattle.page_text.proofs.Encoded.{text_encoded}
 use Rattle.page_text.proofs.PageClean.{CleanTag, again_attributes, again_of, again_short, end_again, end_begins, end_bytes, end_tag_is, start_again, start_bytes, start_is, tag_clean}
 use Rattle.page_text.proofs.PageEscaped.{escaped_read, escaped_some, lines_same, no_comment_ends, no_end_of, no_ends, no_markup, nowhere_less, read_free, read_some, text_free, text_spells, text_without}
-use Rattle.page_text.proofs.PageFits.{comment_parts, end_past, end_small_first, start_fits, text_parts}
+use Rattle.page_text.proofs.PageFits.{comment_parts, end_past, end_small_first, start_fits, text_parts, nodes_fit}
 use Rattle.page_text.proofs.PageShown.{shown}
 use Rattle.page_text.proofs.PageUtf8.{read_utf8, two_parts}
 
@@ -140,10 +140,10 @@ comment_bytes content more tail h =
     ∙ (ap (λ x. codes "<!--" ++ ((x ++ codes "-->") ++ rest)) (encodes-chars content h)
     ∙ ap (λ x. codes "<!--" ++ x) (append_assoc content (codes "-->") rest)))
 
-if_true : (b : Bool) (xs ys : List ℕ) → b ≡ true → Rattle.std.specs.Prelude.if◌then◌else◌ b xs ys ≡ xs
+if_true : (b : Bool) (xs ys : List ℕ) → b ≡ true → if◌then◌else◌ b xs ys ≡ xs
 if_true b xs ys e = rw e refl
 
-if_false : (b : Bool) (xs ys : List ℕ) → b ≡ false → Rattle.std.specs.Prelude.if◌then◌else◌ b xs ys ≡ ys
+if_false : (b : Bool) (xs ys : List ℕ) → b ≡ false → if◌then◌else◌ b xs ys ≡ ys
 if_false b xs ys e = rw e refl
 
 void_bytes : (t : StartTag) (c : CleanTag t) (inside more : List ℕ) (tail : Bytes) → is_void (tag_of t) ≡ true
@@ -268,7 +268,7 @@ again depth number text _ rest (grammar.text_element {raw = raw} {after_start = 
 again depth number text _ rest (grammar.normal_element {after_start = after} {at_end = at_end} {behind = behind} {t = t} {inside = inside} {others = others} room is short plain within close more) h tail stops =
     let c = tag_clean text after t is h short in
     let form = normal_is (tag_of t) plain in
-    let fit = Rattle.page_text.proofs.PageFits.nodes_fit (suc depth) (suc number) after inside at_end within (start_fits text after t is h short).3 in
+    let fit = nodes_fit (suc depth) (suc number) after inside at_end within (start_fits text after t is h short).3 in
     let later = again depth (suc (number + count inside)) behind others rest more (end_past at_end t.name behind close fit.1) tail stops in
     let behind_it = encodes (shown false others) ++ tail in
     let inner = again (suc depth) (suc number) after inside at_end within (start_fits text after t is h short).3 (end_bytes t behind_it) (inr refl) in

@@ -4,7 +4,7 @@ use Rattle.std.specs.Prelude.{drop, map}
 use Rattle.std.specs.Char.{to_ascii_lowercase}
 use Rattle.std.specs.List.{filter, flat_map, list_any}
 use Rattle.std.specs.Str.{IsUtf8, chars, bytes_eq}
-use Rattle.std.proofs.lemmas.Bool.{and_from, and_parts, both_ways, cases_Bool, cond-true, not-true, not_from_false, or_left, or_parts}
+use Rattle.std.proofs.lemmas.Bool.{and_from, cases_Bool, cond-true, not-true, not_from_false, or_parts, eq-eqb, or_from}
 use Rattle.std.proofs.lemmas.List.{length-map}
 use Rattle.std.proofs.lemmas.Str.{IsUtf8-from_ascii, IsUtf8-nil, encodes-append, encodes-chars}
 use lib.Utf8.{encode, encodes}
@@ -104,7 +104,7 @@ last_false f (x ∷ xs) y h = last_false f xs y (or_parts _ _ h).1
 
 front_false : {X : Type 0} (f : X → Bool) (xs ys : List X) → list_any f (xs ++ ys) ≡ false → list_any f xs ≡ false
 front_false f [] ys h = refl
-front_false f (x ∷ xs) ys h = let parts = or_parts _ _ h in Rattle.std.proofs.lemmas.Bool.or_from _ _ parts.0 (front_false f xs ys parts.1)
+front_false f (x ∷ xs) ys h = let parts = or_parts _ _ h in or_from _ _ parts.0 (front_false f xs ys parts.1)
 
 none_named : (a : Attribute) (done : List (List ℕ × List ℕ)) (xs : List Attribute) → ((name : List ℕ) → list_any (is_named name) done ≡ false → bytes_eq a.name name ≡ false)
     → Apart done xs → filter (λ b. not (bytes_eq b.name a.name)) xs ≡ xs
@@ -140,10 +140,7 @@ tag_clean text rest _ (start_tag {inside = inside} {raw = raw} {after_name = aft
 
 -- ---- attributes again
 
--- an attribute as it is read again
-abbrev pub read_of : (a : Attribute) → Clean a → ReadAttribute
-read_of a c = record { name = c.name; value = c.value }
-
+-- attributes as they are read again
 abbrev pub reads_of : (xs : List Attribute) → AreClean xs → List ReadAttribute
 reads_of [] clean = []
 reads_of (a ∷ xs) clean = record { name = (clean.0).name; value = (clean.0).value } ∷ reads_of xs clean.1
@@ -307,7 +304,7 @@ end_again t c more =
 opens_itself : (name more : Bytes) → lowered name ≡ name → opens name (name ++ more) ≡ true
 opens_itself [] more low = refl
 opens_itself (b ∷ bs) more low =
-    and_from _ _ (Rattle.std.proofs.lemmas.Bool.eq-eqb _ _ (head_same _ _ _ _ low)) (opens_itself bs more (tail_same _ _ _ _ low))
+    and_from _ _ (eq-eqb _ _ (head_same _ _ _ _ low)) (opens_itself bs more (tail_same _ _ _ _ low))
   where
     head_same : (x y : ℕ) (xs ys : Bytes) → x ∷ xs ≡ y ∷ ys → x ≡ y
     head_same x y xs ys e = cc

@@ -1,5 +1,5 @@
 -- What is printed of texts, comments and values is read as they are.
-use Rattle.std.proofs.Common.{◌≡◌, ◌+◌, ◌<◌, ◌≤◌, ℕ, Bool, true, false, not, ◌&&◌, List, [], ◌∷◌, ◌++◌, append_assoc, append-nil, length, refl, ap, ap₂, sym, ◌∙◌, arith, ◌⊎◌, inl, inr, ⊎_elim, subst, codes, if◌then◌else◌}
+use Rattle.std.proofs.Common.{◌≡◌, ◌<◌, ◌≤◌, ℕ, Bool, true, false, ◌&&◌, List, [], ◌∷◌, ◌++◌, length, refl, ap, sym, ◌∙◌, arith, ◌⊎◌, inl, inr, ⊎_elim, subst, codes, if◌then◌else◌, length-append}
 use Rattle.std.specs.Prelude.{drop, ◌==◌}
 use Rattle.std.specs.Char.{to_ascii_lowercase}
 use Rattle.std.specs.List.{flat_map}
@@ -150,7 +150,7 @@ escape_some f spells c =
 
 pub escaped_some : (f : ℕ → List ℕ) → Spells f → (bs : Bytes) → 0 < length bs → 0 < length (flat_map f bs)
 escaped_some f spells [] some = absurd (omega (arith, some))
-escaped_some f spells (c ∷ cs) some = omega (arith, escape_some f spells c, Rattle.std.proofs.Common.length-append (f c) (flat_map f cs))
+escaped_some f spells (c ∷ cs) some = omega (arith, escape_some f spells c, length-append (f c) (flat_map f cs))
 
 -- something was read of something
 pub read_some : (entities : Bool) (raw read : Bytes) → IsRead entities raw read → 0 < length raw → 0 < length read

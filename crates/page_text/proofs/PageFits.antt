@@ -1,10 +1,10 @@
 -- What the grammar reads of a text that is UTF-8 fits a forest: names are good, texts are short, attributes have names of their own.
-use Rattle.std.proofs.Common.{◌≡◌, ◌+◌, ◌<◌, ◌≤◌, ℕ, Bool, true, false, not, cond, ◌&&◌, List, [], ◌∷◌, ◌++◌, append_assoc, length, refl, ap, sym, ◌∙◌, arith, ◌⊎◌, inl, inr, ⊎_elim, subst, codes}
+use Rattle.std.proofs.Common.{◌≡◌, ◌+◌, ◌<◌, ◌≤◌, ℕ, Bool, true, false, not, ◌&&◌, List, [], ◌∷◌, ◌++◌, length, refl, ap, sym, ◌∙◌, arith, ◌⊎◌, inl, inr, ⊎_elim, subst, codes, ap₂}
 use Rattle.std.specs.Prelude.{map, nat_eq, nat_le, nat_lt, ◌||◌, ◌==◌}
 use Rattle.std.specs.Char.{to_ascii_lowercase}
 use Rattle.std.specs.List.{filter, list_all, list_any}
 use Rattle.std.specs.Str.{IsAscii, IsUtf8, chars, bytes_eq}
-use Rattle.std.proofs.lemmas.Bool.{and_from, and_parts, both_ways, cases_Bool, cases_lt, eq-eqb, eqb-true, false_from_ne_true, ne_eqb, not-true, not_from_false, or_from, or_left, or_right}
+use Rattle.std.proofs.lemmas.Bool.{and_from, and_parts, both_ways, cases_Bool, cases_lt, eq-eqb, eqb-true, false_from_ne_true, ne_eqb, not-true, not_from_false, or_from, or_left, cond-false, cond-true, or_parts}
 use Rattle.std.proofs.lemmas.Bool.Decides.{nat_tests}
 use Rattle.std.proofs.lemmas.List.{length-map}
 use Rattle.std.proofs.lemmas.Slice.Eq.{bytes_eq-Decides}
@@ -118,7 +118,7 @@ lower_twice b =
 
 pub lowered_twice : (bs : Bytes) → lowered (lowered bs) ≡ lowered bs
 lowered_twice [] = refl
-lowered_twice (b ∷ bs) = Rattle.std.proofs.Common.ap₂ (λ (x : ℕ) (xs : Bytes). x ∷ xs) (lower_twice b) (lowered_twice bs)
+lowered_twice (b ∷ bs) = ap₂ (λ (x : ℕ) (xs : Bytes). x ∷ xs) (lower_twice b) (lowered_twice bs)
 
 pub lowered_all : (q : ℕ → Bool) → ((c : ℕ) → 97 ≤ c → c ≤ 122 → q c ≡ true) → (bs : Bytes) → AreAll q bs → AreAll q (lowered bs)
 lowered_all q letters [] all = tt
@@ -193,13 +193,10 @@ name_good : (cs : List ℕ) → 0 < length (encodes cs) → list_all is_attribut
 name_good [] some all = absurd (omega (arith, some))
 name_good (c ∷ cs) some all = all
 
-is_low : ℕ → Bool
-is_low c = nat_eq (to_ascii_lowercase c) c
-
 low_all : (cs : List ℕ) → list_all (λ c. nat_eq (to_ascii_lowercase c) c) cs ≡ true → lower cs ≡ cs
 low_all [] h = refl
 low_all (c ∷ cs) h =
-    let parts = and_parts _ _ h in Rattle.std.proofs.Common.ap₂ (λ (x : ℕ) (xs : List ℕ). x ∷ xs) (eqb-true _ _ parts.0) (low_all cs parts.1)
+    let parts = and_parts _ _ h in ap₂ (λ (x : ℕ) (xs : List ℕ). x ∷ xs) (eqb-true _ _ parts.0) (low_all cs parts.1)
 
 low_bytes : (bs : Bytes) → AreAll (λ c. nat_eq (to_ascii_lowercase c) c) (lowered bs)
 low_bytes [] = tt
@@ -285,7 +282,7 @@ filter_both p q (a ∷ xs) =
 
 any_last : {X : Type 0} (f : X → Bool) (xs : List X) (y : X) → list_any f xs ≡ false → f y ≡ false → list_any f (xs ++ y ∷ []) ≡ false
 any_last f [] y none out = or_from _ _ out refl
-any_last f (x ∷ xs) y none out = let parts = Rattle.std.proofs.lemmas.Bool.or_parts _ _ none in or_from _ _ parts.0 (any_last f xs y parts.1 out)
+any_last f (x ∷ xs) y none out = let parts = or_parts _ _ none in or_from _ _ parts.0 (any_last f xs y parts.1 out)
 
 pub unlike : (x y : List ℕ) → bytes_eq x y ≡ false → bytes_eq y x ≡ false
 unlike x y out = false_from_ne_true _ (λ yes. both_ways _ out ((bytes_eq-Decides x y).1 (sym ((bytes_eq-Decides y x).0 yes))))
@@ -296,13 +293,13 @@ apart_filter p done [] free = tt
 apart_filter p done (a ∷ xs) free =
     let q : Attribute → Bool = λ b. not (bytes_eq b.name a.name) in
     ⊎_elim
-    (λ yes. subst (λ ys. Apart done ys) (sym (Rattle.std.proofs.lemmas.Bool.cond-true (p a) (a ∷ filter p (filter q (first_of_each xs))) (filter p (filter q (first_of_each xs))) yes)) (
+    (λ yes. subst (λ ys. Apart done ys) (sym (cond-true (p a) (a ∷ filter p (filter q (first_of_each xs))) (filter p (filter q (first_of_each xs))) yes)) (
       free a yes,
       subst (λ ys. Apart (done ++ pair_of a ∷ []) ys) (sym (filter_both p q (first_of_each xs)))
           (apart_filter (λ b. q b && p b) (done ++ pair_of a ∷ []) xs
           (λ b both. let parts = and_parts _ _ both in any_last (is_named b.name) done (pair_of a) (free b parts.1) (unlike b.name a.name (not-true _ parts.0)))),
     ))
-    (λ no. subst (λ ys. Apart done ys) (sym (Rattle.std.proofs.lemmas.Bool.cond-false (p a) (a ∷ filter p (filter q (first_of_each xs))) (filter p (filter q (first_of_each xs))) no ∙ filter_both p q (first_of_each xs)))
+    (λ no. subst (λ ys. Apart done ys) (sym (cond-false (p a) (a ∷ filter p (filter q (first_of_each xs))) (filter p (filter q (first_of_each xs))) no ∙ filter_both p q (first_of_each xs)))
     (apart_filter (λ b. q b && p b) done xs (λ b both. free b (and_parts _ _ both).1)))
     (cases_Bool (p a))
 

@@ -1,8 +1,7 @@
 -- The requests of a page make the forest of its nodes, from the document alone.
 use Rattle.std.proofs.Common.{◌≡◌, ◌+◌, ◌<◌, ℕ, Bool, true, false, List, [], ◌∷◌, length, refl, ap, sym, ◌∙◌, arith, None, ⊎_elim, subst}
-use Rattle.std.specs.Prelude.{map, ◌||◌}
-use Rattle.std.specs.List.{flat_map}
-use Rattle.std.proofs.lemmas.Bool.{cases_eq, or_cases, eqb-true}
+use Rattle.std.specs.Prelude.{map, ◌||◌, nat_eq}
+use Rattle.std.proofs.lemmas.Bool.{or_cases, eqb-true, both_ways}
 use Prim.Native.Nat.{zero, suc}
 use Rattle.door.specs.declared.values.Kind.TheVariants as kind
 use Rattle.door.specs.declared.members.Member.TheVariants.{DocumentCreateComment}
@@ -58,7 +57,7 @@ TopFits has_element number (Comment content behind) = HasRoom 1 number × (is_sh
 no_element_more : (f : Forest) (content : List ℕ) → IsForest f → 0 < length f → HasNoElement f → HasNoElement (grown f 0 (length f ∷ []) (host_node (Noted content) [] [] ∷ []))
 no_element_more f content h some free c child =
     let x = host_node (Noted content) [] [] in
-    let among : (Rattle.std.specs.Prelude.nat_eq c (length f) || is_child f 0 c) ≡ true =
+    let among : (nat_eq c (length f) || is_child f 0 c) ≡ true =
     sym (is_among-push (length f) c (children_of f 0)) ∙ (sym (ap (is_among c) (children_of-grown_here f 0 (length f ∷ []) (x ∷ []) some)) ∙ child) in
     ⊎_elim
     (λ last. ap (λ k. is_element (form_at (grown f 0 (length f ∷ []) (x ∷ [])) k)) (eqb-true c (length f) last) ∙ ap (λ (y : Node). is_element y.form) (last-grown f 0 (length f ∷ []) x))
@@ -110,7 +109,7 @@ plain n = refl
 new_is : IsForest new_forest
 new_is =
     forest_from new_forest (λ c. None) (λ c. 0)
-    (record { up = λ p c e. absurd (Rattle.std.proofs.lemmas.Bool.both_ways _ (ap (is_among c) (childless p)) e); down = λ p c e. absurd (cc) })
+    (record { up = λ p c e. absurd (both_ways _ (ap (is_among c) (childless p)) e); down = λ p c e. absurd (cc) })
     refl plain (λ p c e. absurd (cc)) refl (λ p. ap are_different (childless p)) (λ c p e. absurd (cc)) (λ n. omega arith)
 
 document_parent : Parent new_forest kind.Document 0 0
@@ -118,7 +117,7 @@ document_parent = record { forest = new_is; within = omega arith; way = root; ta
 
 pub page_made : (given : Setting) (nodes : Nodes) → TopFits false 1 nodes → MakesAll given.origin (start given) (writes_of (pieces_of nodes)) (with_nodes (start given) (forest_of nodes))
 page_made given nodes fit =
-    let all = grows_top given.origin (start given) new_forest nodes false document_parent (λ e c child. absurd (Rattle.std.proofs.lemmas.Bool.both_ways _ (ap (is_among c) (childless 0)) child)) fit in
+    let all = grows_top given.origin (start given) new_forest nodes false document_parent (λ e c child. absurd (both_ways _ (ap (is_among c) (childless 0)) child)) fit in
     subst (λ rs. MakesAll given.origin (start given) rs (with_nodes (start given) (forest_of nodes))) (sym (writes-cut (made_of the_document 1 nodes))) all.makes
 
 -- a run that is given nothing
@@ -127,4 +126,4 @@ nothing = record { origin = record { address = []; owners = []; grants = []; rea
 
 pub page_forest : (nodes : Nodes) → TopFits false 1 nodes → IsForest (forest_of nodes)
 page_forest nodes fit =
-    (grows_top nothing.origin (start nothing) new_forest nodes false document_parent (λ e c child. absurd (Rattle.std.proofs.lemmas.Bool.both_ways _ (ap (is_among c) (childless 0)) child)) fit).forest
+    (grows_top nothing.origin (start nothing) new_forest nodes false document_parent (λ e c child. absurd (both_ways _ (ap (is_among c) (childless 0)) child)) fit).forest
