@@ -63,7 +63,7 @@ asked-end tag attributes inside = asked-end_at (is_named (codes "script") tag) (
 asked-writes : (requests : List Request) (more : List Made) → asked (map Build requests ++ more) ≡ requests ++ asked more
 asked-writes requests more = asked-append (map Build requests) more ∙ ap (λ rs. rs ++ asked more) (asked-build requests)
 
-asked-element : (parent : Thing) (number : ℕ) (tag : List ℕ) (attributes : List Attribute) (inside behind : Nodes)
+pub asked-element : (parent : Thing) (number : ℕ) (tag : List ℕ) (attributes : List Attribute) (inside behind : Nodes)
     → asked (made_of parent number (Element tag attributes inside behind))
     ≡ element_writes number parent tag attributes ++ (asked (made_of (thing_of kind.Element number) (suc number) inside) ++ asked (made_of parent (suc (number + count inside)) behind))
 asked-element parent number tag attributes inside behind =

@@ -25,6 +25,7 @@ pub mod PageGrown
 pub mod PageHolders
 pub mod PageInsideFaults
 pub mod PageJoined
+pub mod PageJournal
 pub mod PageKeptPieces
 pub mod PageLong
 pub mod PageMoved

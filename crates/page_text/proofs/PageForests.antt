@@ -121,7 +121,7 @@ page_made given nodes fit =
     subst (λ rs. MakesAll given.origin (start given) rs (with_nodes (start given) (forest_of nodes))) (sym (writes-cut (made_of the_document 1 nodes))) all.makes
 
 -- a run that is given nothing
-nothing : Setting
+pub nothing : Setting
 nothing = record { origin = record { address = []; owners = []; grants = []; read_selector = λ text. None }; stores = []; clocks = [] }
 
 pub page_forest : (nodes : Nodes) → TopFits false 1 nodes → IsForest (forest_of nodes)

@@ -1,9 +1,11 @@
 //! What the requests of a page make, and what is printed of it.
 
-ghost use Rattle.std.specs.Prelude.{◌≡◌, ◌≤◌, ℕ, List, length};
+ghost use Rattle.std.specs.Prelude.{◌≡◌, ◌≤◌, ℕ, List, length, map};
 ghost use Rattle.door.specs.declared.limits.TheConstants.{PAGE_LIMIT};
 ghost use Rattle.dom_semantics.specs.Forest.{IsForest};
 ghost use Rattle.dom_semantics.specs.Stage.{Setting, start, with_nodes};
+ghost use Rattle.dom_semantics.specs.StageOf.{stage_of};
+ghost use Rattle.door.specs.declared.marks.Mark.TheVariants.{Build};
 ghost use Rattle.page_text.specs.PageFaults as faults;
 ghost use Rattle.page_text.specs.PageForest as forest;
 ghost use Rattle.page_text.specs.PageForestFacts as facts;
@@ -23,6 +25,7 @@ pub fn some_pages_make_and_print_so()
 pub fn a_page_makes_its_forest()
     ensures forest { (given : Setting) (bytes text : List ℕ) (nodes : tree.Nodes) → faults.IsText bytes text → grammar.IsDocument text nodes → forest.built_all given.origin (start given) (forest.writes_of (tree.pieces_of nodes)) ≡ with_nodes (start given) (forest.forest_of nodes) }
     ensures tree { (bytes text : List ℕ) (nodes : tree.Nodes) → faults.IsText bytes text → grammar.IsDocument text nodes → IsForest (forest.forest_of nodes) }
+    ensures journal { (given : Setting) (bytes text : List ℕ) (nodes : tree.Nodes) → faults.IsText bytes text → grammar.IsDocument text nodes → (stage_of given (map Build (forest.writes_of (tree.pieces_of nodes)))).nodes ≡ forest.forest_of nodes }
     ensures kept { (given : Setting) (bytes text : List ℕ) (nodes : tree.Nodes) → faults.IsText bytes text → grammar.IsDocument text nodes → forest.AreKept given.origin (start given) (forest.writes_of (tree.pieces_of nodes)) }
 {}
 
