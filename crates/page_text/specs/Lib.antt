@@ -4,10 +4,13 @@ pub mod Nodes
 pub mod Outcomes
 pub mod PageFacts
 pub mod PageFaults
+pub mod PageForest
+pub mod PageForestFacts
 pub mod PageGrammar
 pub mod PageModel
 pub mod PageNodes
 pub mod PageOpen
+pub mod PagePrinted
 pub mod PageReading
 pub mod PageSpelling
 pub mod PageTags

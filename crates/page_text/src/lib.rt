@@ -5,6 +5,7 @@ mod elements;
 mod facts;
 mod faults;
 mod front;
+mod laws;
 mod pieces;
 mod printing;
 mod reader;
@@ -17,6 +18,7 @@ mod writes;
 
 pub use facts::{parts_of_a_page_have_one_reading, some_pages_are_spelled_so};
 pub use faults::{PageFault, PageKind};
+pub use laws::{a_page_makes_its_forest, a_printed_page_reads_again, some_pages_make_and_print_so};
 pub use pieces::Piece;
 pub use printing::{a_node_is_printed_whole, print};
 pub use reader::{PageReader, a_page_has_one_reading};
