@@ -1,6 +1,7 @@
 -- The model's tags and steps are read in one way.
 use Rattle.std.proofs.Common.{◌≡◌, ℕ, List, [], Option, Some, None, Result, Ok, Err, refl, ap, sym, ◌∙◌}
 use Rattle.std.proofs.lemmas.Bool.{both_ways}
+use Rattle.std.proofs.lemmas.Option.{same_Some, none-some}
 use Rattle.page_text.specs.declared.faults.PageKind.{PageKind}
 use Rattle.page_text.specs.declared.tags.Attribute.{Attribute}
 use Rattle.page_text.specs.Bytes.{Bytes}
@@ -27,12 +28,6 @@ same_left : (o : Outcome (Option Attribute × Bytes)) (a b : Option Attribute) (
 unfolding left_in
 same_left o a b x y h g = ap left_in (sym h ∙ g)
 
-none_some : {A : Type 0} (a : A) → None ≡ Some a → ⊥
-none_some a h = cc
-
-some_same : {A : Type 0} (a b : A) → Some a ≡ Some b → a ≡ b
-some_same a b h = cc
-
 ok_err : {A E : Type 0} (o : Result A E) (a : A) (e : E) → o ≡ Ok a → o ≡ Err e → ⊥
 ok_err o a e h g = cc
 
@@ -42,13 +37,13 @@ module _ (start : Bytes) where
 
   closed_once : (found : List Attribute) (text rest : Bytes) → t.next_at start text ≡ Ok (None, rest) → (b : Outcome (List Attribute × Bytes)) → Attributes start found text b → Ok (found, rest) ≡ b
   closed_once found text rest h b (t.closed found' text' rest' g) = ap (λ r. Ok (found, r)) (same_left _ _ _ _ _ h g)
-  closed_once found text rest h b (t.more found' a text' rest' out g m) = absurd (none_some a (same_found _ _ _ _ _ h g))
+  closed_once found text rest h b (t.more found' a text' rest' out g m) = absurd (none-some a (same_found _ _ _ _ _ h g))
   closed_once found text rest h b (t.stuck found' text' e g) = absurd (ok_err _ _ _ h g)
 
   more_once : (found : List Attribute) (a : Attribute) (text rest : Bytes) (out : Outcome (List Attribute × Bytes)) → t.next_at start text ≡ Ok (Some a, rest) → ((b : Outcome (List Attribute × Bytes)) → Attributes start (t.with_attribute found a) rest b → out ≡ b) → (b : Outcome (List Attribute × Bytes)) → Attributes start found text b → out ≡ b
-  more_once found a text rest out h n b (t.closed found' text' rest' g) = absurd (none_some a (sym (same_found _ _ _ _ _ h g)))
+  more_once found a text rest out h n b (t.closed found' text' rest' g) = absurd (none-some a (sym (same_found _ _ _ _ _ h g)))
   more_once found a text rest out h n b (t.more found' a' text' rest' out' g m) =
-      let e = some_same a a' (same_found _ _ _ _ _ h g) in
+      let e = same_Some a a' (same_found _ _ _ _ _ h g) in
       let r = same_left _ _ _ _ _ h g in
       n b (rw (e, r) m)
   more_once found a text rest out h n b (t.stuck found' text' e g) = absurd (ok_err _ _ _ h g)

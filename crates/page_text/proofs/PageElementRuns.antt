@@ -2,7 +2,7 @@
 use Rattle.std.proofs.Common.{◌≡◌, ℕ, suc, ◌+◌, ◌<◌, ◌≤◌, ◌⊎◌, inl, inr, Bool, true, false, cond, not, List, [], ◌∷◌, ◌++◌, Option, Some, None, Ok, Err, length, drop, map, refl, ap, sym, ◌∙◌, subst, arith, append_assoc, append-nil, add-one, length-append, codes}
 use Rattle.std.specs.Prelude.{◌&&◌, ◌||◌, ◌==◌, encode_utf8_all}
 use Rattle.std.specs.Str.{chars, bytes_eq}
-use Rattle.std.proofs.lemmas.Bool.{or_parts}
+use Rattle.std.proofs.lemmas.Bool.{or_parts, not-true}
 use Rattle.std.proofs.lemmas.Bool.Decides.{nat_tests}
 use Rattle.std.proofs.lemmas.Slice.Eq.{bytes_eq-Decides}
 use Rattle.door.specs.declared.requests.Request.{Request}
@@ -51,10 +51,6 @@ pub name_read : (text rest : Bytes) (one : StartTag) → IsStartTag text one res
 name_read text rest _ (start_tag {inside = inside} {raw = raw} {after_name = after} e letter run all end) =
     ap lowered (run_once is_name_byte inside raw after _ _ run (name_here inside)).0 ∙ ap (λ x. lowered (name_of (drop 1 x))) (sym e)
 
-not_false : (x : Bool) → not x ≡ true → x ≡ false
-not_false true h = absurd (not_both (sym h))
-not_false false h = refl
-
 none_raw : (tag : List ℕ) (a b c d : Bool) → is_named (codes "script") tag ≡ a → is_named (codes "style") tag ≡ b → is_named (codes "title") tag ≡ c → is_named (codes "textarea") tag ≡ d
     → is_text_holder tag ≡ false → raw_of tag ≡ None
 none_raw tag true b c d e f g i h = absurd (not_both (sym (rw e refl) ∙ h))
@@ -65,7 +61,7 @@ none_raw tag false false false false e f g i h = rw (e, f, g, i) refl
 
 normal_parts : (tag : List ℕ) → is_normal tag ≡ true → (is_void tag ≡ false) × (raw_of tag ≡ None)
 normal_parts tag h =
-    let both = or_parts (is_void tag) (is_text_holder tag) (not_false (is_void tag || is_text_holder tag) h) in
+    let both = or_parts (is_void tag) (is_text_holder tag) (not-true (is_void tag || is_text_holder tag) h) in
     (both.0, none_raw tag (is_named (codes "script") tag) (is_named (codes "style") tag) (is_named (codes "title") tag) (is_named (codes "textarea") tag) refl refl refl refl both.1)
 
 module _ (s : State) (one : StartTag) (inside_text : Bytes) (is : IsStartTag s.rest one inside_text) (normal : is_normal (tag_of one) ≡ true) where

@@ -2,7 +2,7 @@
 use Rattle.std.proofs.Common.{◌≡◌, ℕ, suc, ◌+◌, ◌<◌, ◌≤◌, ◌⊎◌, inl, inr, Bool, true, false, cond, not, List, [], ◌∷◌, ◌++◌, Option, Some, None, Ok, Err, length, drop, refl, ap, sym, ◌∙◌, subst, arith, append-nil, codes}
 use Rattle.std.specs.Prelude.{◌&&◌, ◌==◌}
 use Rattle.std.specs.Str.{bytes_eq}
-use Rattle.std.proofs.lemmas.Bool.{and_parts, false_from_ne_true}
+use Rattle.std.proofs.lemmas.Bool.{and_parts, false_from_ne_true, not-true, not-false}
 use Rattle.std.proofs.lemmas.Slice.Eq.{bytes_eq-Decides}
 use Rattle.base_text.specs.declared.text.TheConstants.{TEXT_LIMIT}
 use Rattle.dom_semantics.specs.Whitespace.{is_white_space}
@@ -81,14 +81,6 @@ nothing_read = refl
 some_text : (raw : Bytes) → TEXT_LIMIT < length (read_value raw) → 0 < length raw
 some_text [] h = absurd (omega (arith, h, ap length nothing_read))
 some_text (b ∷ bs) h = omega arith
-
-not_not : (v : Bool) → not v ≡ false → v ≡ true
-not_not true h = refl
-not_not false h = absurd (not_both h)
-
-not_yes : (v : Bool) → not v ≡ true → v ≡ false
-not_yes true h = absurd (not_both (sym h))
-not_yes false h = refl
 
 late : (v w : Bool) → (v && not w) ≡ false → (v && cond w false true) ≡ false
 late v true h = h
@@ -201,10 +193,10 @@ module _ (s : State) (h : Bool) (os : List Opening) (n : ℕ) (same : s.open_ele
   none_free kind r = no_room_again s.next (length s.open_elements) (suc (length os)) s.rest kind depth_is (rw next r)
 
   may_is : may_begin h os ≡ true → (is_at_top s && s.begun) ≡ false
-  may_is may = rw (top_is, begun) (not_yes (is_top os && h) may)
+  may_is may = rw (top_is, begun) (not-true (is_top os && h) may)
 
   may_not : may_begin h os ≡ false → (is_at_top s && s.begun) ≡ true
-  may_not may = rw (top_is, begun) (not_not (is_top os && h) may)
+  may_not may = rw (top_is, begun) (not-false (is_top os && h) may)
 
   declares : (v : Bool) → may_declare h os ≡ v → (is_top os && not h) ≡ v
   declares v may = may

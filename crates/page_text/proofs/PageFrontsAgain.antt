@@ -2,7 +2,7 @@
 use Rattle.std.proofs.Common.{◌≡◌, ℕ, ◌<◌, ◌⊎◌, inl, inr, Bool, true, false, cond, nat_lt, not, [], ◌∷◌, ◌++◌, length, drop, refl, ap, sym, ◌∙◌, subst, arith, length-append, codes}
 use Rattle.std.specs.Prelude.{◌&&◌, ◌||◌, ◌==◌}
 use Rattle.std.specs.Char.{to_ascii_lowercase}
-use Rattle.std.proofs.lemmas.Bool.{and_parts, and_left, eqb-true}
+use Rattle.std.proofs.lemmas.Bool.{and_parts, and_left, or_parts, not-true, eqb-true}
 use Rattle.std.proofs.lemmas.Bool.Decides.{nat_tests}
 use Rattle.dom_semantics.specs.Whitespace.{is_white_space}
 use Rattle.page_text.specs.Bytes.{Bytes, is_letter, begins, sees, opens}
@@ -55,18 +55,6 @@ space_small b h = grind (arith, nat_tests)
 no_dash : (d : ℕ) (v : Bool) → (d == 45) ≡ v → (to_ascii_lowercase d == 100) ≡ true → v ≡ false
 no_dash d true e h = absurd (not_both (sym h ∙ ap (λ x. to_ascii_lowercase x == 100) (eqb-true d 45 e)))
 no_dash d false e h = refl
-
-or_false : (p q : Bool) → (p || q) ≡ false → (p ≡ false) × (q ≡ false)
-or_false true q h = absurd (not_both h)
-or_false false q h = (refl, h)
-
-not_false : (p : Bool) → not p ≡ true → p ≡ false
-not_false true h = absurd (not_both (sym h))
-not_false false h = refl
-
-not_true : (p : Bool) → not p ≡ false → p ≡ true
-not_true true h = refl
-not_true false h = absurd (not_both h)
 
 -- ---- behind `<`
 
@@ -147,8 +135,8 @@ end_found (b ∷ (c ∷ cs)) h =
 
 text_at : (b c : ℕ) (cs : Bytes) (v : Bool) → (b == 60) ≡ v → (v && (is_letter c || ((c == 47) || (c == 33)))) ≡ false → front_of (b ∷ (c ∷ cs)) ≡ run
 text_at b c cs true e h =
-    let one = or_false (is_letter c) ((c == 47) || (c == 33)) h in
-    let two = or_false (c == 47) (c == 33) one.1 in
+    let one = or_parts (is_letter c) ((c == 47) || (c == 33)) h in
+    let two = or_parts (c == 47) (c == 33) one.1 in
     with_first b (c ∷ cs) run e (text_behind c cs one.0 two.0 two.1)
 text_at b c cs false e h = text_first b (c ∷ cs) e
 
@@ -159,7 +147,7 @@ one_text b false e = text_first b [] e
 pub text_found : (text : Bytes) → begins_text text ≡ true → front_of text ≡ run
 text_found [] h = absurd (not_both (sym h))
 text_found (b ∷ []) h = one_text b (b == 60) refl
-text_found (b ∷ (c ∷ cs)) h = text_at b c cs (b == 60) refl (not_false _ h)
+text_found (b ∷ (c ∷ cs)) h = text_at b c cs (b == 60) refl (not-true _ h)
 
 bad_at : (b c : ℕ) (cs : Bytes) (v w : Bool) → (c == 47) ≡ v → (c == 33) ≡ w → (b == 60) ≡ true → (is_letter c || (v || w)) ≡ true → is_letter c ≡ false → begins_end_tag (b ∷ (c ∷ cs)) ≡ false
     → begins_comment (b ∷ (c ∷ cs)) ≡ false → begins_doctype (b ∷ (c ∷ cs)) ≡ false → front_of (b ∷ (c ∷ cs)) ≡ bad
@@ -178,8 +166,8 @@ bad_found (b ∷ (c ∷ cs)) h n =
     let text = b ∷ (c ∷ cs) in
     let both = and_parts (begins_markup text) (not (begins_start_tag text || (begins_end_tag text || begins_comment text))) h in
     let mark = and_parts (b == 60) (is_letter c || ((c == 47) || (c == 33))) both.0 in
-    let one = or_false (begins_start_tag text) (begins_end_tag text || begins_comment text) (not_false _ both.1) in
-    let two = or_false (begins_end_tag text) (begins_comment text) one.1 in
+    let one = or_parts (begins_start_tag text) (begins_end_tag text || begins_comment text) (not-true _ both.1) in
+    let two = or_parts (begins_end_tag text) (begins_comment text) one.1 in
     bad_at b c cs (c == 47) (c == 33) refl refl mark.0 mark.1 (rw mark.0 at one.0) two.0 two.1 n
 
 -- ---- what is spelled there is found

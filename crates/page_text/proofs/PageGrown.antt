@@ -1,7 +1,7 @@
 -- The nodes so far, with more behind them, an element begun there, or the innermost one ended.
 use Rattle.std.proofs.Common.{◌≡◌, ℕ, suc, ◌+◌, ◌≤◌, Bool, true, false, cond, not, Option, Some, List, [], ◌∷◌, ◌++◌, length, map, refl, ap, sym, ◌∙◌, subst, arith, append_assoc, append-nil, codes}
 use Rattle.std.specs.Prelude.{◌||◌, is_some}
-use Rattle.std.proofs.lemmas.Bool.{or_parts}
+use Rattle.std.proofs.lemmas.Bool.{or_parts, not-true}
 use Rattle.door.specs.declared.values.Kind.TheVariants as kind
 use Rattle.door.specs.declared.values.Thing.{Thing}
 use Rattle.page_text.specs.declared.tags.Attribute.{Attribute}
@@ -45,10 +45,6 @@ made_joined parent n (Comment content behind) ys =
     let more = made_joined parent (suc n) behind ys ∙ ap (λ l. made_of parent (suc n) behind ++ l) (made_moved parent (suc n + count behind) (n + suc (count behind)) ys (omega arith)) in
     ap (λ l. writes ++ l) more ∙ sym (append_assoc writes (made_of parent (suc n) behind) (made_of parent (n + suc (count behind)) ys))
 
-not_true : (x : Bool) → not x ≡ true → x ≡ false
-not_true true h = sym h
-not_true false h = refl
-
 no_script : (tag : List ℕ) (others : Option Bool) (v : Bool) → is_named (codes "script") tag ≡ v → is_some (cond v (Some false) others) ≡ false → v ≡ false
 no_script tag others true e h = absurd (not_both h)
 no_script tag others false e h = refl
@@ -56,7 +52,7 @@ no_script tag others false e h = refl
 -- the end tag of such an element makes nothing
 pub no_end : (tag : List ℕ) (all : List Attribute) (inside : Nodes) → is_normal tag ≡ true → made_at_end tag all inside ≡ []
 no_end tag all inside h =
-    let holder = (or_parts (is_void tag) (is_text_holder tag) (not_true (is_void tag || is_text_holder tag) h)).1 in
+    let holder = (or_parts (is_void tag) (is_text_holder tag) (not-true (is_void tag || is_text_holder tag) h)).1 in
     rw (no_script tag _ (is_named (codes "script") tag) refl holder) refl
 
 pub made_in : (parent : Thing) (m : ℕ) (t : StartTag) (inside : Nodes) → is_normal (tag_of t) ≡ true

@@ -5,6 +5,7 @@ use Rattle.std.specs.Char.{to_ascii_lowercase}
 use Rattle.std.specs.Str.{IsAscii, IsUtf8, chars, bytes_eq}
 use Rattle.std.proofs.lemmas.Bool.{and_parts, eqb-true}
 use Rattle.std.proofs.lemmas.Bool.Decides.{nat_tests}
+use Rattle.std.proofs.lemmas.Option.{same_Some}
 use Rattle.std.proofs.lemmas.Slice.Eq.{bytes_eq-Decides}
 use Rattle.std.proofs.lemmas.Str.{IsUtf8-from_ascii, encodes-chars}
 use Rattle.dom_semantics.specs.Whitespace.{is_white_space}
@@ -55,15 +56,12 @@ pub record IsHolder (tag : List ℕ) (raw : Raw) : Type 0 where
   pub holds : HoldsText tag (reads_entities raw)
   pub named : encode_utf8_all tag ≡ raw_name raw
 
-some_raw : (a b : Raw) → Some a ≡ Some b → a ≡ b
-some_raw a b h = cc
-
 holder_at : (tag : List ℕ) (raw : Raw) (a b c d : Bool) → is_named (codes "script") tag ≡ a → is_named (codes "style") tag ≡ b → is_named (codes "title") tag ≡ c
     → is_named (codes "textarea") tag ≡ d → cond a (Some Script) (cond b (Some Style) (cond c (Some Title) (cond d (Some Textarea) None))) ≡ Some raw → IsHolder tag raw
-holder_at tag raw true b c d e f g i h = rw (sym (some_raw Script raw h)) (record { holds = rw e refl; named = named_word (codes "script") tag e })
-holder_at tag raw false true c d e f g i h = rw (sym (some_raw Style raw h)) (record { holds = rw (e, f) refl; named = named_word (codes "style") tag f })
-holder_at tag raw false false true d e f g i h = rw (sym (some_raw Title raw h)) (record { holds = rw (e, f, g) refl; named = named_word (codes "title") tag g })
-holder_at tag raw false false false true e f g i h = rw (sym (some_raw Textarea raw h)) (record { holds = rw (e, f, g, i) refl; named = named_word (codes "textarea") tag i })
+holder_at tag raw true b c d e f g i h = rw (sym (same_Some Script raw h)) (record { holds = rw e refl; named = named_word (codes "script") tag e })
+holder_at tag raw false true c d e f g i h = rw (sym (same_Some Style raw h)) (record { holds = rw (e, f) refl; named = named_word (codes "style") tag f })
+holder_at tag raw false false true d e f g i h = rw (sym (same_Some Title raw h)) (record { holds = rw (e, f, g) refl; named = named_word (codes "title") tag g })
+holder_at tag raw false false false true e f g i h = rw (sym (same_Some Textarea raw h)) (record { holds = rw (e, f, g, i) refl; named = named_word (codes "textarea") tag i })
 holder_at tag raw false false false false e f g i h = absurd (cc)
 
 pub holder_of : (tag : List ℕ) (raw : Raw) → raw_of tag ≡ Some raw → IsHolder tag raw

@@ -2,7 +2,7 @@
 use Rattle.std.proofs.Common.{◌≡◌, ℕ, suc, ◌+◌, ◌<◌, ◌≤◌, Bool, true, false, cond, not, List, [], ◌∷◌, ◌++◌, Option, Some, None, Ok, Err, length, drop, map, refl, ap, sym, ◌∙◌, subst, arith, append_assoc, append-nil, length-append}
 use Rattle.std.specs.Prelude.{◌&&◌, ◌||◌, ◌==◌, encode_utf8_all}
 use Rattle.std.specs.Str.{chars}
-use Rattle.std.proofs.lemmas.Bool.{and_left}
+use Rattle.std.proofs.lemmas.Bool.{and_left, and_right}
 use Rattle.dom_semantics.specs.Whitespace.{is_white_space}
 use Rattle.door.specs.declared.requests.Request.{Request}
 use Rattle.page_text.specs.declared.pieces.Piece.{Piece}
@@ -102,12 +102,8 @@ top_of s e = ap (λ (os : List m.Open). length os == 0) e
 depth_top : (s : State) → s.open_elements ≡ [] → 1 ≡ suc (length s.open_elements)
 depth_top s e = ap (λ (os : List m.Open). suc (length os)) (sym e)
 
-and_none : (v : Bool) → (v && false) ≡ false
-and_none true = refl
-and_none false = refl
-
 may_top : (s : State) → s.begun ≡ false → (is_at_top s && s.begun) ≡ false
-may_top s e = rw e (and_none (is_at_top s))
+may_top s e = and_right (is_at_top s) s.begun e
 
 -- white space, and a doctype
 module _ (s : State) (top : s.open_elements ≡ []) where

@@ -4,7 +4,7 @@ use Rattle.std.specs.Prelude.{◌==◌, ◌||◌, encode_utf8_all}
 use Rattle.std.specs.Option.{unwrap_or}
 use Rattle.std.specs.Str.{chars}
 use Rattle.std.proofs.lemmas.Slice.Eq.{bytes_eq-Decides}
-use Rattle.std.proofs.lemmas.Bool.{or_parts, eqb-true, eq-eqb}
+use Rattle.std.proofs.lemmas.Bool.{or_parts, not-true, eqb-true, eq-eqb}
 use Rattle.page_text.specs.Bytes.{Bytes, is_letter, begins}
 use Rattle.page_text.specs.Nodes.{is_named, is_void}
 use Rattle.page_text.specs.PageSpelling.{UpTo, begins_markup, IsRead}
@@ -87,14 +87,10 @@ pub holder_kind : (tag : List ℕ) (entities : Bool) → HoldsText tag entities 
 holder_kind tag entities h =
     holder_kind_at tag entities (is_named (codes "script") tag) (is_named (codes "style") tag) (is_named (codes "title") tag) (is_named (codes "textarea") tag) refl refl refl refl h
 
-not_true : (x : Bool) → not x ≡ true → x ≡ false
-not_true true h = sym h
-not_true false h = refl
-
 pub normal_kind : (tag : List ℕ) → is_normal tag ≡ true → element_kind tag ≡ 2
 unfolding element_kind
 normal_kind tag h =
-    let both = or_parts (is_void tag) (is_text_holder tag) (not_true (is_void tag || is_text_holder tag) h) in
+    let both = or_parts (is_void tag) (is_text_holder tag) (not-true (is_void tag || is_text_holder tag) h) in
     rw both.0 (rw both.1 refl)
 
 pub entities_in : List ℕ → Bool

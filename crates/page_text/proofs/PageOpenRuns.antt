@@ -1,7 +1,7 @@
 -- The model comes to each place of a page.
 use Rattle.std.proofs.Common.{◌≡◌, ℕ, suc, ◌+◌, Bool, true, false, List, [], ◌∷◌, ◌++◌, Option, Some, None, Ok, length, drop, map, refl, ap, sym, ◌∙◌, subst, arith, append_assoc, append-nil, add-one, length-append}
 use Rattle.std.specs.Prelude.{◌&&◌, ◌||◌, ◌==◌}
-use Rattle.std.proofs.lemmas.Bool.{and_left}
+use Rattle.std.proofs.lemmas.Bool.{and_left, and_right}
 use Rattle.door.specs.declared.values.Kind.TheVariants as kind
 use Rattle.page_text.specs.declared.pieces.Piece.{Piece}
 use Rattle.page_text.specs.Bytes.{Bytes, lowered}
@@ -137,10 +137,6 @@ inside_run outer number text _ open_there rest (deeper {at = at} {inside = insid
 
 -- ---- a place of a page
 
-and_none : (v : Bool) → (v && false) ≡ false
-and_none true = refl
-and_none false = refl
-
 top_comes : (text : Bytes) (nodes : Nodes) (h : Bool) (rest : Bytes) → IsTop false 1 text nodes h rest → Comes (start text) (made_of (parent (start text)) 1 nodes) (count nodes) h [] rest
 top_comes text nodes h rest is = comes_over (start text) nodes rest h [] (top_run false 1 text nodes h rest is (start text) refl refl refl refl) refl (top_has false 1 text nodes h rest is)
 
@@ -153,7 +149,7 @@ open_run text _ os _ rest (in_element {before = before} {nodes = nodes} {at = at
     let number_is : 1 + count before ≡ first.last.next = omega (arith, first.next) in
     let tag_is : IsStartTag first.last.rest t inside = rw first.same_rest opens.tag in
     let second = comes_in first.last t inside at (1 + count before) [] (room_of first.last 1 (1 + count before) (depth_of first.last [] first.same_open) number_is (subst (λ k. HasRoom 1 k) (sym at_one) opens.room)) tag_is opens.short opens.normal
-    (rw first.element_begun (and_none (is_at_top first.last))) first.same_open number_is first.same_rest in
+    (and_right (is_at_top first.last) first.last.begun first.element_begun) first.same_open number_is first.same_rest in
     let third = inside_run (opening (1 + count before) at t ∷ []) (suc (1 + count before)) inside nodes os rest (subst (λ k. IsInside (opening k at t ∷ []) (suc k) inside nodes os rest) (sym at_one) deep) second.last second.same_rest second.same_open (omega (arith, second.next, number_is)) refl second.element_begun in
     comes_deep s before nodes at inside rest t [] os false true 1 refl first opens.normal second third refl
   where

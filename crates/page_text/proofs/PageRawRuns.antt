@@ -2,6 +2,7 @@
 use Rattle.std.proofs.Common.{◌≡◌, ℕ, suc, ◌+◌, ◌<◌, ◌≤◌, Bool, true, false, cond, List, [], ◌∷◌, ◌++◌, Option, Some, None, Ok, Err, length, drop, map, refl, ap, sym, ◌∙◌, subst, arith, append_assoc, append-nil, add-one, codes}
 use Rattle.std.specs.Prelude.{◌&&◌, encode_utf8_all}
 use Rattle.std.specs.Str.{chars}
+use Rattle.std.proofs.lemmas.Option.{same_Some}
 use Rattle.door.specs.declared.requests.Request.{Request}
 use Rattle.door.specs.declared.values.Kind.TheVariants as kind
 use Rattle.base_text.specs.declared.text.TheConstants.{TEXT_LIMIT}
@@ -45,19 +46,16 @@ pub record IsRawOf (tag : List ℕ) (entities : Bool) : Type 0 where
   pub named : encode_utf8_all tag ≡ raw_name raw
   pub no_void : is_void tag ≡ false
 
-some_bool : (a b : Bool) → Some a ≡ Some b → a ≡ b
-some_bool a b h = cc
-
 raw_of_at : (tag : List ℕ) (entities a b c d : Bool) → is_named (codes "script") tag ≡ a → is_named (codes "style") tag ≡ b → is_named (codes "title") tag ≡ c
     → is_named (codes "textarea") tag ≡ d → cond a (Some false) (cond b (Some false) (cond c (Some true) (cond d (Some true) None))) ≡ Some entities → IsRawOf tag entities
 raw_of_at tag entities true b c d e f g i h =
-    let w = named_word (codes "script") tag e in record { raw = kinds.Script; is = rw e refl; reads = some_bool false entities h; named = w; no_void = rw w refl }
+    let w = named_word (codes "script") tag e in record { raw = kinds.Script; is = rw e refl; reads = same_Some false entities h; named = w; no_void = rw w refl }
 raw_of_at tag entities false true c d e f g i h =
-    let w = named_word (codes "style") tag f in record { raw = kinds.Style; is = rw (e, f) refl; reads = some_bool false entities h; named = w; no_void = rw w refl }
+    let w = named_word (codes "style") tag f in record { raw = kinds.Style; is = rw (e, f) refl; reads = same_Some false entities h; named = w; no_void = rw w refl }
 raw_of_at tag entities false false true d e f g i h =
-    let w = named_word (codes "title") tag g in record { raw = kinds.Title; is = rw (e, f, g) refl; reads = some_bool true entities h; named = w; no_void = rw w refl }
+    let w = named_word (codes "title") tag g in record { raw = kinds.Title; is = rw (e, f, g) refl; reads = same_Some true entities h; named = w; no_void = rw w refl }
 raw_of_at tag entities false false false true e f g i h =
-    let w = named_word (codes "textarea") tag i in record { raw = kinds.Textarea; is = rw (e, f, g, i) refl; reads = some_bool true entities h; named = w; no_void = rw w refl }
+    let w = named_word (codes "textarea") tag i in record { raw = kinds.Textarea; is = rw (e, f, g, i) refl; reads = same_Some true entities h; named = w; no_void = rw w refl }
 raw_of_at tag entities false false false false e f g i h = absurd (cc)
 
 pub raw_again : (tag : List ℕ) (entities : Bool) → HoldsText tag entities → IsRawOf tag entities

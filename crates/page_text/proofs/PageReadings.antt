@@ -2,6 +2,7 @@
 use Rattle.std.proofs.Common.{◌≡◌, ℕ, ◌+◌, ◌-◌, ◌<◌, ◌≤◌, Bool, true, false, cond, nat_lt, List, [], ◌∷◌, ◌++◌, Option, Some, None, Result, Ok, Err, IfOk, IfErr, length, drop, refl, ap, sym, ◌∙◌, subst, arith, append_assoc, append-nil, length-append}
 use Rattle.std.proofs.Common.{ltb}
 use Rattle.std.proofs.lemmas.Bool.{ltb-true, ltb-false}
+use Rattle.std.proofs.lemmas.Option.{same_Some, none-some}
 use Rattle.std.specs.Str.{is_utf8}
 use Rattle.std.specs.Str.Lossy.{utf8_valid_len}
 use Rattle.base_text.specs.declared.memory.OrMemory.{OrMemory}
@@ -105,12 +106,6 @@ reads_once : (bytes : Bytes) (pieces others : List Piece) (o p : Option (PageKin
 reads_once bytes pieces others o p a b =
     ends_once (start a.0) pieces others o p a.2 (subst (λ x. Ends (start x) others p) (mark_once bytes b.0 a.0 b.1.mark a.1.mark) b.2)
 
-some_same : {A : Type 0} (x y : A) → Some x ≡ Some y → x ≡ y
-some_same x y e = cc
-
-none_some : {A : Type 0} (x : A) → None ≡ Some x → ⊥
-none_some x e = cc
-
 -- a fault's place by what follows it
 front_length : (bytes front place : Bytes) → bytes ≡ front ++ place → length front ≡ length bytes - length place
 front_length bytes front place e = omega (arith, ap length e, length-append front place)
@@ -128,7 +123,7 @@ pub page_once : (bytes : Bytes) (pieces others : List Piece) → IsPage bytes pi
 page_once bytes pieces others a b = (reads_once bytes pieces others None None (page_reads bytes pieces a) (page_reads bytes others b)).0
 
 page_or_fault_at : (bytes : Bytes) (pieces others : List Piece) (f : PageFault) → Reads bytes pieces None → ReadsFault bytes others f → ⊥
-page_or_fault_at bytes pieces others f a (in_text kind front place b parts same) = none_some {A = PageKind × Bytes} (kind, place) (reads_once bytes pieces others None (Some (kind, place)) a b).1
+page_or_fault_at bytes pieces others f a (in_text kind front place b parts same) = none-some {A = PageKind × Bytes} (kind, place) (reads_once bytes pieces others None (Some (kind, place)) a b).1
 page_or_fault_at bytes pieces others f a (before_text b) = no_text bytes a.0 others f a.1 b
 
 pub page_or_fault : (bytes : Bytes) (pieces others : List Piece) (f : PageFault) → IsPage bytes pieces → IsFaulty bytes others f → ⊥
@@ -137,7 +132,7 @@ page_or_fault bytes pieces others f a b = page_or_fault_at bytes pieces others f
 fault_once_at : (bytes : Bytes) (pieces others : List Piece) (f g : PageFault) → ReadsFault bytes pieces f → ReadsFault bytes others g → (pieces ≡ others) × (f ≡ g)
 fault_once_at bytes pieces others f g (in_text k front place a e same) (in_text l other last b d too) =
     let both = reads_once bytes pieces others (Some (k, place)) (Some (l, last)) a b in
-    (both.0, same ∙ (same_fault bytes front other place last k l e d (some_same {A = PageKind × Bytes} (k, place) (l, last) both.1) ∙ sym too))
+    (both.0, same ∙ (same_fault bytes front other place last k l e d (same_Some {A = PageKind × Bytes} (k, place) (l, last) both.1) ∙ sym too))
 fault_once_at bytes pieces others f g (in_text k front place a e same) (before_text b) = absurd (no_text bytes a.0 others g a.1 b)
 fault_once_at bytes pieces others f g (before_text a) (in_text l other last b d too) = absurd (no_text bytes b.0 pieces f b.1 a)
 fault_once_at bytes pieces others f g (before_text a) (before_text b) = no_text_once bytes pieces others f g a b
@@ -213,7 +208,7 @@ module _ (bytes : Bytes) (done : List Piece) (p : Progress) where
   only_at No b q pieces is (Ok None) g r e = absurd g
   only_at No b q pieces is (Ok (Some x)) g r e = next_left b pieces None (page_reads bytes pieces is) x q g
   only_at No b q pieces is (Err (Fault f)) g r e =
-      none_some _ (stuck_left b pieces None (page_reads bytes pieces is) f (subst (λ v. model.Stops v p f) e r.0)).1
+      none-some _ (stuck_left b pieces None (page_reads bytes pieces is) f (subst (λ v. model.Stops v p f) e r.0)).1
   only_at No b q pieces is (Err NoMemory) g r e = tt
   only_at Ended b q pieces is (Ok None) g r e = page_once bytes pieces done is b
   only_at Ended b q pieces is (Ok (Some x)) g r e = absurd g
@@ -226,7 +221,7 @@ module _ (bytes : Bytes) (done : List Piece) (p : Progress) where
   met_stuck : (b : IsBetween bytes done p) (pieces : List Piece) (f g : PageFault) → ReadsFault bytes pieces f → IsStuck p g → (g ≡ f) × (pieces ≡ done)
   met_stuck b pieces f g (in_text kind front place r parts same) s =
       let l = stuck_left b pieces (Some (kind, place)) r g s in
-      let both = some_same {A = PageKind × Bytes} (kind, place) (s.kind, s.rest) l.1 in
+      let both = same_Some {A = PageKind × Bytes} (kind, place) (s.kind, s.rest) l.1 in
       let lengths : p.size - length s.rest ≡ length front =
       ap (λ n. n - length s.rest) b.size ∙ (ap (λ x. length bytes - length x) (sym (ap (λ (x : PageKind × Bytes). x.1) both)) ∙ sym (front_length bytes front place parts)) in
       let kinds : s.kind ≡ kind = sym (ap (λ (x : PageKind × Bytes). x.0) both) in

@@ -2,7 +2,7 @@
 use Rattle.std.proofs.Common.{◌≡◌, ℕ, suc, ◌<◌, ◌≤◌, ◌⊎◌, inl, inr, Bool, true, false, cond, not, List, [], ◌∷◌, ◌++◌, Option, Some, None, Result, Ok, Err, length, drop, map, refl, ap, sym, ◌∙◌, subst, arith}
 use Rattle.std.specs.Prelude.{◌&&◌, ◌||◌, ◌==◌}
 use Rattle.std.proofs.Common.{ltb}
-use Rattle.std.proofs.lemmas.Bool.{le-ltb, ltb-false, eqb-true, eq-eqb, and_parts, or_parts}
+use Rattle.std.proofs.lemmas.Bool.{le-ltb, ltb-false, eqb-true, eq-eqb, and_parts, or_parts, not-true}
 use Rattle.std.specs.Str.{chars}
 use Rattle.base_text.specs.declared.text.TheConstants.{TEXT_LIMIT}
 use Rattle.dom_semantics.specs.Whitespace.{is_white_space}
@@ -172,14 +172,10 @@ record IsPlain (text : Bytes) : Type 0 where
   some : is_empty text ≡ false
   close : sees 62 text ≡ false
 
-not_true_in : (v : Bool) → not v ≡ true → v ≡ false
-not_true_in true h = sym h
-not_true_in false h = refl
-
 plain_first : (b : ℕ) (bs : Bytes) → begins is_quote (b ∷ bs) ≡ false → is_unquoted b ≡ true → IsPlain (b ∷ bs)
 plain_first b bs q u =
     let quotes = or_parts (b == 34) (b == 39) q in
-    record { double = quotes.0; single = quotes.1; some = refl; close = (or_parts (is_white_space b) (b == 62) (not_true_in (is_white_space b || (b == 62)) u)).1 }
+    record { double = quotes.0; single = quotes.1; some = refl; close = (or_parts (is_white_space b) (b == 62) (not-true (is_white_space b || (b == 62)) u)).1 }
 
 plain_at : (text raw rest : Bytes) → begins is_quote text ≡ false → text ≡ raw ++ rest → AreAll is_unquoted raw → 0 < length raw → IsPlain text
 plain_at text [] rest q e all some = absurd (omega (arith, some))
