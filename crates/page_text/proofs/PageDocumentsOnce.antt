@@ -45,7 +45,7 @@ letter_at c true w h g l = grind (arith, nat_tests)
 letter_at c false true h g l = grind (arith, nat_tests)
 letter_at c false false h g l = grind (arith, nat_tests)
 
-letter_no_mark : (c : ℕ) → is_letter c ≡ true → (to_ascii_lowercase c == 33) ≡ false
+pub letter_no_mark : (c : ℕ) → is_letter c ≡ true → (to_ascii_lowercase c == 33) ≡ false
 letter_no_mark c l = letter_at c (nat_lt c 65) (nat_lt c 91) refl refl l
 
 space_at : (b : ℕ) (v w : Bool) → nat_lt b 65 ≡ v → nat_lt b 91 ≡ w → b < 60 → (cond v b (cond w (b + 32) b) == 60) ≡ false

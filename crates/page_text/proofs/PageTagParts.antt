@@ -14,7 +14,7 @@ use Rattle.page_text.proofs.PageValues.{read_once}
 other_first : (q : ℕ → Bool) (b : ℕ) (bs text : Bytes) → text ≡ b ∷ bs → q b ≡ true → begins q text ≡ false → ⊥
 other_first q b bs text e h n = not_both (sym h ∙ (ap (begins q) (sym e) ∙ n))
 
-not_other : (q : ℕ) → is_other q q ≡ false
+pub not_other : (q : ℕ) → is_other q q ≡ false
 not_other q = ap not (eq-eqb q q refl)
 
 -- up to the next mark, which stands there
@@ -23,7 +23,7 @@ mark_once q a x b y e all_a all_b =
     let same = one_run (is_other q) a (q ∷ x) b (q ∷ y) e all_a (not_other q) all_b (not_other q) in
     (same.0, same_tail q q x y same.1)
 
-equals_once : (text other rest one : Bytes) → text ≡ other → IsEquals text rest → IsEquals other one → rest ≡ one
+pub equals_once : (text other rest one : Bytes) → text ≡ other → IsEquals text rest → IsEquals other one → rest ≡ one
 equals_once text other rest one e (equals {before = b} {behind = x} {more = m} u v) (equals {before = c} {behind = y} {more = n} w z) =
     let sign = run_same is_white_space text other b (61 ∷ x) c (61 ∷ y) e u w in
     (run_same is_white_space x y m rest n one (same_tail 61 61 x y sign.1) v z).1
@@ -54,7 +54,7 @@ same_attribute : (a b x y : Bytes) → a ≡ b → x ≡ y → ◌≡◌ {A = Re
 same_attribute a b x y e f = cc
 
 -- what stands behind a name is no `=` and is one
-not_valued : (rest after gap behind at : Bytes) → rest ≡ after → Space rest gap behind → sees 61 behind ≡ false → IsEquals after at → ⊥
+pub not_valued : (rest after gap behind at : Bytes) → rest ≡ after → Space rest gap behind → sees 61 behind ≡ false → IsEquals after at → ⊥
 not_valued rest after gap behind at e space n (equals {before = b} {behind = x} {more = m} u v) =
     other_first (λ c. c == 61) 61 x behind (run_same is_white_space rest after gap behind b (61 ∷ x) e space u).1 refl n
 

@@ -21,7 +21,7 @@ no_attribute b bs text rest _ e n (bare {raw = raw} run some space k) = run_firs
 no_attribute b bs text rest _ e n (valued {raw = raw} {after_name = after} run some sign is read) = run_first b bs text raw after e n run some
 
 -- where a tag ends no attribute begins
-end_no_more : (text other rest gap here behind : Bytes) (a : ReadAttribute) → text ≡ other → EndsTag text rest → Space other gap here → IsAttribute here a behind → ⊥
+pub end_no_more : (text other rest gap here behind : Bytes) (a : ReadAttribute) → text ≡ other → EndsTag text rest → Space other gap here → IsAttribute here a behind → ⊥
 end_no_more text other rest gap here behind a e (closed {gap = blank} space) other_space is =
     no_attribute 62 rest here behind a (sym (run_same is_white_space text other blank (62 ∷ rest) gap here e space other_space).1) refl is
 end_no_more text other rest gap here behind a e (slashed {gap = blank} space) other_space is =
