@@ -1,5 +1,5 @@
 -- The model's tags and steps are read in one way.
-use Rattle.std.proofs.Common.{◌≡◌, ℕ, List, [], Option, Some, None, Result, Ok, Err, refl, ap, sym, ◌∙◌}
+use Rattle.std.proofs.Common.{◌≡◌, List, [], Option, Some, None, Result, Ok, Err, refl, ap, sym, ◌∙◌}
 use Rattle.std.proofs.lemmas.Bool.{both_ways}
 use Rattle.page_text.specs.declared.faults.PageKind.{PageKind}
 use Rattle.page_text.specs.declared.tags.Attribute.{Attribute}

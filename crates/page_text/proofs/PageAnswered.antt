@@ -1,9 +1,9 @@
 -- What a step of the model refuses, whatever stands at the front, is the fault at its place in the page.
-use Rattle.std.proofs.Common.{◌≡◌, ℕ, suc, Bool, true, false, cond, not, List, [], ◌∷◌, Option, Some, None, Ok, Err, length, refl, ap, sym, ◌∙◌, subst}
-use Rattle.std.specs.Prelude.{◌&&◌, ◌==◌}
+use Rattle.std.proofs.Common.{◌≡◌, Bool, true, false, cond, not, List, [], ◌∷◌, Option, Some, None, Ok, Err, refl, ap, sym, ◌∙◌, subst}
+use Rattle.std.specs.Prelude.{◌&&◌}
 use Rattle.dom_semantics.specs.Whitespace.{is_white_space}
 use Rattle.page_text.specs.declared.faults.PageKind.{PageKind}
-use Rattle.page_text.specs.declared.faults.PageKind.TheVariants.{BadTag, Unclosed}
+use Rattle.page_text.specs.declared.faults.PageKind.TheVariants.{BadTag}
 use Rattle.page_text.specs.declared.pieces.Piece.{Piece}
 use Rattle.page_text.specs.declared.scan.Raw.{Raw}
 use Rattle.page_text.specs.Bytes.{Bytes, begins}
@@ -13,11 +13,9 @@ use Rattle.page_text.specs.TagsModel.{Tag, after_space}
 use Rattle.page_text.specs.StepsModel as m
 use Rattle.page_text.specs.StepsModel.{State, Stepped, Next, Front, front_of, innermost, room, is_at_top, next_of, content_step, raw_step}
 use Rattle.page_text.specs.StepsModel.{ElementStep, no_room, no_tag, element, StepsAt, over_end, over_text, over_comment, over_doctype, over_end_tag, over_bad, over_second, over_element, Steps}
-use Rattle.page_text.specs.PageNodes.{count}
-use Rattle.page_text.specs.PageOpen.{Opening, IsInnermost, is_top, may_begin, may_declare}
-use Rattle.page_text.specs.PageFaults.{in_start_tag, FaultAt, unclosed, bad_markup, late_doctype, text_at_top, second_element, no_room_for_element, in_element, IsFault}
+use Rattle.page_text.specs.PageOpen.{Opening, IsInnermost, is_top, may_begin}
+use Rattle.page_text.specs.PageFaults.{in_start_tag, unclosed, bad_markup, late_doctype, text_at_top, second_element, no_room_for_element, in_element, IsFault}
 use Rattle.page_text.proofs.PageFronts.{nothing_at, comment_at, doctype_at, start_at, start_begins, bad_begins, doctype_absent, run_begins}
-use Rattle.page_text.proofs.PageTagsRead.{err_ok, err_same}
 use Rattle.page_text.proofs.PageTagsWhole.{IsTagRead, start_ok}
 use Rattle.page_text.proofs.PageTagRefused.{start_err}
 use Rattle.page_text.proofs.PageState.{listed, innermost_listed, IsState, top_is, room_there, no_room_there}

@@ -1,5 +1,5 @@
 -- A text breaks off from the tags of one kind at one place at most, and then neither begins with a tag nor ends inside one.
-use Rattle.std.proofs.Common.{◌≡◌, ℕ, List, [], ◌∷◌, ◌++◌, length, refl, ap, sym, ◌∙◌, subst, arith, append_assoc, append-nil, length-append}
+use Rattle.std.proofs.Common.{◌≡◌, ℕ, [], ◌∷◌, ◌++◌, length, refl, ap, sym, ◌∙◌, subst, arith, append_assoc, append-nil, length-append}
 use Rattle.page_text.specs.Bytes.{Bytes}
 use Rattle.page_text.specs.PageFaults.{GoesOn, BreaksAt}
 use Rattle.page_text.proofs.PageParts.{same_head, same_tail, both_same}

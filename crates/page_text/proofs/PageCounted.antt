@@ -3,10 +3,8 @@ use Rattle.std.proofs.Common.{◌≡◌, ℕ, Bool, true, false, cond, not, List
 use Rattle.std.specs.Prelude.{◌&&◌, ◌||◌}
 use Rattle.std.specs.List.{filter, list_any}
 use Rattle.std.specs.Str.{bytes_eq}
-use Rattle.std.proofs.lemmas.Bool.{false_from_ne_true}
 use Rattle.std.proofs.lemmas.Slice.Eq.{bytes_eq-Decides}
 use Rattle.page_text.specs.declared.tags.Attribute.{Attribute}
-use Rattle.page_text.specs.TagsModel.{with_attribute}
 use Rattle.page_text.specs.PageTags.{first_of_each}
 use Rattle.page_text.proofs.PageParts.{not_both}
 use Rattle.page_text.proofs.PageTagLists.{counted}

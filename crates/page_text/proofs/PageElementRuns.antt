@@ -1,48 +1,31 @@
 -- The model goes over an element whose content is one text, and over one whose content is nodes, where it goes over these.
-use Rattle.std.proofs.Common.{◌≡◌, ℕ, suc, ◌+◌, ◌<◌, ◌≤◌, ◌⊎◌, inl, inr, Bool, true, false, cond, not, List, [], ◌∷◌, ◌++◌, Option, Some, None, Ok, Err, length, drop, map, refl, ap, sym, ◌∙◌, subst, arith, append_assoc, append-nil, add-one, length-append, codes}
-use Rattle.std.specs.Prelude.{◌&&◌, ◌||◌, ◌==◌, encode_utf8_all}
-use Rattle.std.specs.Str.{chars, bytes_eq}
+use Rattle.std.proofs.Common.{◌≡◌, ℕ, suc, ◌<◌, Bool, true, false, not, List, [], ◌∷◌, ◌++◌, None, Ok, length, drop, map, refl, ap, sym, ◌∙◌, subst, arith, append_assoc, append-nil, add-one, length-append, codes}
+use Rattle.std.specs.Prelude.{◌&&◌, ◌||◌, ◌==◌}
+use Rattle.std.specs.Str.{bytes_eq}
 use Rattle.std.proofs.lemmas.Bool.{or_parts}
 use Rattle.std.proofs.lemmas.Bool.Decides.{nat_tests}
 use Rattle.std.proofs.lemmas.Slice.Eq.{bytes_eq-Decides}
-use Rattle.door.specs.declared.requests.Request.{Request}
 use Rattle.door.specs.declared.values.Kind.TheVariants as kind
-use Rattle.base_text.specs.declared.text.TheConstants.{TEXT_LIMIT}
-use Rattle.page_text.specs.declared.faults.PageKind.TheVariants.{Unclosed}
 use Rattle.page_text.specs.declared.pieces.Piece.{Piece}
-use Rattle.page_text.specs.declared.scan.Raw.{Raw}
-use Rattle.page_text.specs.declared.scan.Raw.TheVariants as kinds
-use Rattle.page_text.specs.declared.scan.Stop.TheVariants.{AtEndOf}
-use Rattle.page_text.specs.declared.tags.Attribute.{Attribute}
 use Rattle.page_text.specs.Bytes.{Bytes, is_name_byte, lowered}
-use Rattle.page_text.specs.ScansModel.{before, from, stops, raw_name}
-use Rattle.page_text.specs.ValuesModel.{with_line_ends, read_value}
-use Rattle.page_text.specs.Outcomes.{Outcome, ◌>>=◌, checked}
-use Rattle.page_text.specs.Nodes.{thing_of, text_writes, element_writes, is_named, is_void, raw_of, value_of, is_runnable}
-use Rattle.page_text.specs.TagsModel.{Tag, is_empty, name_of, end_tag_at}
+use Rattle.page_text.specs.Outcomes.{Outcome, ◌>>=◌}
+use Rattle.page_text.specs.Nodes.{thing_of, element_writes, is_named, is_void, raw_of}
+use Rattle.page_text.specs.TagsModel.{name_of, end_tag_at}
 use Rattle.page_text.specs.StepsModel as m
 use Rattle.page_text.specs.StepsModel.{Open, State, Stepped, Next, Script, Steps, parent, room_at, made, opened, read_raw, inside_at, filled, with_external, closed_raw, raw_step, is_at_top, tag_step, content_step}
 use Rattle.page_text.specs.StepsModel.{innermost, outer, over_end_tag, front_of}
-use Rattle.page_text.specs.PageSpelling.{UpTo, IsRead}
 use Rattle.page_text.specs.PageTags.{StartTag, IsStartTag, start_tag, IsEndTag, IsShort, tag_of, attributes_of}
-use Rattle.page_text.specs.PageNodes.{Nodes, NoNodes, Element, Text, count, Made, Build, cut, made_at_end, made_of, text_inside, external_of}
-use Rattle.page_text.specs.PageNodes as tree
-use Rattle.page_text.specs.PageGrammar.{HasRoom, HoldsText, text_in, is_text_holder, begins_end_of, IsTextInside, empty, is_normal}
-use Rattle.page_text.specs.PageGrammar as grammar
-use Rattle.page_text.proofs.PageParts.{not_both, front_same, run_once}
-use Rattle.page_text.proofs.PageValues.{read_is, read_as}
-use Rattle.page_text.proofs.PageScans.{name_here, end_of_here}
-use Rattle.page_text.proofs.PageTagsRead.{checked_again, no_chars}
+use Rattle.page_text.specs.PageNodes.{Nodes, NoNodes, Element, Made, Build, cut, made_of}
+use Rattle.page_text.specs.PageGrammar.{HasRoom, is_text_holder, is_normal}
+use Rattle.page_text.proofs.PageParts.{not_both, run_once}
+use Rattle.page_text.proofs.PageScans.{name_here}
 use Rattle.page_text.proofs.PageTagsWhole.{end_again}
-use Rattle.page_text.proofs.PageHolders.{name_encoded, reads_entities}
 use Rattle.page_text.proofs.PageGrown.{made_in}
-use Rattle.page_text.proofs.PageCuts.{builds_behind, external_behind, script_behind}
-use Rattle.page_text.proofs.PageState.{piece_at, cut_off, innermost_last, outer_last}
-use Rattle.page_text.proofs.PageRaws.{raw_nothing, ended_by, at_end, inside_writes, made_inside, inside_of}
-use Rattle.page_text.proofs.PageRoom.{room_again}
+use Rattle.page_text.proofs.PageCuts.{builds_behind}
+use Rattle.page_text.proofs.PageState.{piece_at, innermost_last, outer_last}
 use Rattle.page_text.proofs.PageFrontsAgain.{is_end_found}
-use Rattle.page_text.proofs.PageRuns.{Run, stays, past_step, past_script, one_step, run_on}
-use Rattle.page_text.proofs.PageReaches.{Reaches, or_true, read_tag, element_steps, step_reaches}
+use Rattle.page_text.proofs.PageRuns.{Run, past_step, one_step, run_on}
+use Rattle.page_text.proofs.PageReaches.{Reaches, or_true, read_tag, element_steps}
 
 -- ---- elements whose content is nodes
 

@@ -1,39 +1,19 @@
 -- A step of the model over an element keeps its place in the page.
-use Rattle.std.proofs.Common.{◌≡◌, ℕ, suc, ◌+◌, ◌<◌, ◌≤◌, ◌⊎◌, inl, inr, Bool, true, false, cond, List, [], ◌∷◌, ◌++◌, Option, Some, None, Ok, Err, length, drop, map, refl, ap, sym, ◌∙◌, subst, arith, append_assoc, append-nil, codes}
-use Rattle.std.specs.Str.{chars}
-use Rattle.door.specs.declared.requests.Request.{Request}
-use Rattle.door.specs.declared.values.Kind.TheVariants as kind
-use Rattle.base_text.specs.declared.text.TheConstants.{TEXT_LIMIT}
-use Rattle.page_text.specs.declared.faults.PageKind.{PageKind}
-use Rattle.page_text.specs.declared.faults.PageKind.TheVariants.{Unclosed}
+use Rattle.std.proofs.Common.{◌≡◌, suc, true, false, List, [], ◌∷◌, ◌++◌, None, length, drop, map, refl, ap, ◌∙◌, append-nil}
 use Rattle.page_text.specs.declared.pieces.Piece.{Piece}
-use Rattle.page_text.specs.declared.scan.Raw.{Raw}
-use Rattle.page_text.specs.declared.scan.Raw.TheVariants as kinds
-use Rattle.page_text.specs.declared.scan.Stop.TheVariants.{AtEndOf}
-use Rattle.page_text.specs.declared.tags.Attribute.{Attribute}
 use Rattle.page_text.specs.Bytes.{Bytes, lowered}
-use Rattle.page_text.specs.ScansModel.{before, from, stops, raw_name}
-use Rattle.page_text.specs.ValuesModel.{with_line_ends, read_value}
-use Rattle.page_text.specs.Outcomes.{Outcome, ◌>>=◌, checked}
-use Rattle.page_text.specs.Nodes.{the_document, thing_of, text_writes, element_writes, is_named, is_void, raw_of, value_of, is_runnable}
-use Rattle.page_text.specs.TagsModel.{Tag, is_empty, name_of, end_tag_at}
-use Rattle.page_text.specs.StepsModel as m
-use Rattle.page_text.specs.StepsModel.{State, Stepped, parent, room, room_at, made, opened, inside_at, filled, closed_raw, scripted, raw_step, with_external}
-use Rattle.page_text.specs.PageSpelling.{IsRead}
-use Rattle.page_text.specs.PageTags.{StartTag, IsStartTag, IsEndTag, tag_of, attributes_of}
-use Rattle.page_text.specs.PageNodes.{Nodes, NoNodes, Element, Text, count, Made, Build, made_at_end, made_of, text_inside, external_of}
-use Rattle.page_text.specs.PageNodes as n
-use Rattle.page_text.specs.PageGrammar.{HasRoom, IsTextInside, empty, filled as text_filled, begins_end_of, is_normal, IsNodes, no_more, void_element, text_element}
-use Rattle.page_text.specs.PageOpen.{Opening, Opens, opening, may_begin}
-use Rattle.page_text.proofs.PageValues.{read_as, read_here}
-use Rattle.page_text.proofs.PageScans.{end_of_here}
-use Rattle.page_text.proofs.PageTagsRead.{bind_ok, err_ok, ok_same, checked_ok, no_chars}
-use Rattle.page_text.proofs.PageTagsWhole.{IsTagRead, end_ok}
-use Rattle.page_text.proofs.PageHolders.{name_encoded, reads_entities, holder_of, normal_of, void_no_script, raw_small, end_named, end_letter}
+use Rattle.page_text.specs.Nodes.{element_writes, is_void, raw_of}
+use Rattle.page_text.specs.TagsModel.{Tag, name_of}
+use Rattle.page_text.specs.StepsModel.{State, parent, made, opened}
+use Rattle.page_text.specs.PageTags.{tag_of, attributes_of}
+use Rattle.page_text.specs.PageNodes.{NoNodes, Element, count, Build, made_at_end}
+use Rattle.page_text.specs.PageGrammar.{HasRoom, is_normal, IsNodes, no_more, void_element}
+use Rattle.page_text.specs.PageOpen.{Opens, opening, may_begin}
+use Rattle.page_text.proofs.PageTagsWhole.{IsTagRead}
+use Rattle.page_text.proofs.PageHolders.{normal_of, void_no_script}
 use Rattle.page_text.proofs.PageGrown.{parent_in}
-use Rattle.page_text.proofs.PageCuts.{external_behind, script_behind, builds_behind, empty_piece}
-use Rattle.page_text.proofs.PageOpened.{GrownAt, open_at}
-use Rattle.page_text.proofs.PageState.{listed, open_as, IsState, state_grown, parent_is, room_there, room_ok}
+use Rattle.page_text.proofs.PageOpened.{open_at}
+use Rattle.page_text.proofs.PageState.{open_as, IsState, state_grown, parent_is}
 use Rattle.page_text.proofs.PageSteps.{grown_as, grow_element}
 
 module _ (text : Bytes) (done : List Piece) (s : State) (i : IsState text done s) (t : Tag) (read : IsTagRead s.rest t) (may : may_begin s.begun i.open_there ≡ true)

@@ -1,9 +1,8 @@
 -- The facts on pages and faults, by the cases of the grammar.
-use Rattle.std.proofs.Common.{◌≡◌, ℕ, ◌≤◌, inr, Bool, true, false, [], ◌∷◌, ◌++◌, length, refl, sym, ◌∙◌, arith, codes}
+use Rattle.std.proofs.Common.{◌≡◌, ℕ, ◌≤◌, inr, Bool, true, false, [], ◌∷◌, ◌++◌, length, refl, arith, codes}
 use Rattle.std.specs.Str.{chars}
 use Rattle.std.specs.Char.{encode_utf8}
 use Rattle.base_text.specs.declared.text.TheConstants.{TEXT_LIMIT}
-use Rattle.door.specs.declared.limits.TheConstants.{DEPTH_LIMIT, NODE_LIMIT}
 use Rattle.dom_semantics.specs.Whitespace.{is_white_space}
 use Rattle.page_text.specs.Bytes.{Bytes, is_letter, is_name_byte, is_attribute_byte, begins, lowered}
 use Rattle.page_text.specs.PageSpelling.{AreAll, Run, Space, is_unquoted, no_line, in_line, return_and_line_feed, no_character, entity}

@@ -1,5 +1,5 @@
 -- What has a fault by the grammar at a place, the model refuses there by this fault.
-use Rattle.std.proofs.Common.{◌≡◌, ℕ, suc, ◌+◌, ◌<◌, ◌≤◌, ◌⊎◌, inl, inr, Bool, true, false, cond, not, List, [], ◌∷◌, ◌++◌, Option, Some, None, Ok, Err, length, drop, refl, ap, sym, ◌∙◌, subst, arith, append-nil, codes}
+use Rattle.std.proofs.Common.{◌≡◌, ℕ, suc, ◌<◌, inl, Bool, true, false, cond, not, List, [], ◌∷◌, Ok, Err, length, refl, ap, sym, ◌∙◌, subst, arith, append-nil}
 use Rattle.std.specs.Prelude.{◌&&◌, ◌==◌}
 use Rattle.std.specs.Str.{bytes_eq}
 use Rattle.std.proofs.lemmas.Bool.{and_parts, false_from_ne_true}
@@ -8,30 +8,28 @@ use Rattle.base_text.specs.declared.text.TheConstants.{TEXT_LIMIT}
 use Rattle.dom_semantics.specs.Whitespace.{is_white_space}
 use Rattle.page_text.specs.declared.faults.PageKind.{PageKind}
 use Rattle.page_text.specs.declared.faults.PageKind.TheVariants.{TooLong, Unclosed, BadTag, WrongEnd}
-use Rattle.page_text.specs.declared.scan.Raw.{Raw}
-use Rattle.page_text.specs.declared.scan.Stop.TheVariants.{AtByte, AtMarkup, AtCommentEnd}
-use Rattle.page_text.specs.Bytes.{Bytes, is_letter, begins, sees}
-use Rattle.page_text.specs.ScansModel.{before, from, stops, raw_name}
+use Rattle.page_text.specs.declared.scan.Stop.TheVariants.{AtMarkup}
+use Rattle.page_text.specs.Bytes.{Bytes, is_letter, begins}
+use Rattle.page_text.specs.ScansModel.{before, stops, raw_name}
 use Rattle.page_text.specs.ValuesModel.{spells, with_line_ends, read_value, unescaped_past}
 use Rattle.page_text.specs.Outcomes.{Outcome, ◌>>=◌, checked}
-use Rattle.page_text.specs.Nodes.{is_void}
 use Rattle.page_text.specs.TagsModel.{Tag, comment_at, doctype_at, end_tag_at}
 use Rattle.page_text.specs.TagsModel as t
 use Rattle.page_text.specs.StepsModel as m
 use Rattle.page_text.specs.StepsModel.{State, Stepped, Steps, innermost, is_at_top, room, room_at, front_of, next_of, tag_step, raw_step, ElementStep, no_room, no_tag, element}
 use Rattle.page_text.specs.StepsModel.{over_end, over_text, over_comment, over_doctype, over_end_tag, over_bad, over_second, over_element}
-use Rattle.page_text.specs.PageSpelling.{AreAll, Run, NowhereIn, UpTo, IsRead, as_it_stands, begins_markup, begins_comment, begins_end_tag, begins_start_tag, is_other}
+use Rattle.page_text.specs.PageSpelling.{AreAll, Run, NowhereIn, UpTo, as_it_stands, begins_markup, begins_end_tag, begins_start_tag, is_other}
 use Rattle.page_text.specs.PageTags as tags
 use Rattle.page_text.specs.PageTags.{StartTag, IsStartTag, IsEndTag, IsComment, IsShort, begins_comment_end, begins_doctype, tag_of, attributes_of}
-use Rattle.page_text.specs.PageGrammar.{HasRoom, HoldsText}
+use Rattle.page_text.specs.PageGrammar.{HasRoom}
 use Rattle.page_text.specs.PageOpen.{Opening, IsInnermost, EndsInnermost, is_top, may_begin, may_declare}
 use Rattle.page_text.specs.PageFaults.{HasNoRoom, CommentFault, no_comment_end, long_comment, EndTagFault, ElementFault, in_start_tag, in_text, TextInsideFault, FaultAt}
 use Rattle.page_text.specs.PageFaults as faults
 use Rattle.page_text.proofs.PageParts.{not_both, run_once, front_once}
-use Rattle.page_text.proofs.PageValues.{line_ends_are, value_is, same_front}
+use Rattle.page_text.proofs.PageValues.{line_ends_are, value_is}
 use Rattle.page_text.proofs.PageScans.{others_here, comment_end_here, markup_here}
 use Rattle.page_text.proofs.PageTagsWhole.{start_again, end_again}
-use Rattle.page_text.proofs.PageHolders.{name_encoded, reads_entities, end_mark}
+use Rattle.page_text.proofs.PageHolders.{name_encoded, reads_entities}
 use Rattle.page_text.proofs.PageEndFaults.{end_refused}
 use Rattle.page_text.proofs.PageState.{listed, listed_length, innermost_listed, top_listed}
 use Rattle.page_text.proofs.PageRoom.{room_again, no_room_again}

@@ -1,13 +1,12 @@
 -- What the model finds at the front of a text stands there by the grammar, and what stands there is found.
 use Rattle.std.proofs.Common.{◌≡◌, ℕ, ◌⊎◌, inl, inr, Bool, true, false, cond, not, [], ◌∷◌, drop, refl, ap, sym, ◌∙◌, codes}
 use Rattle.std.specs.Prelude.{◌&&◌, ◌||◌, ◌==◌}
-use Rattle.std.specs.Char.{to_ascii_lowercase}
 use Rattle.std.proofs.lemmas.Bool.{and_parts, eq-eqb}
 use Rattle.page_text.specs.Bytes.{Bytes, is_letter, begins, sees, opens}
 use Rattle.page_text.specs.ValuesModel.{spells}
 use Rattle.page_text.specs.TagsModel.{is_empty}
 use Rattle.page_text.specs.StepsModel.{Front, nothing, run, comment, doctype, start_tag, end_tag, bad, front_of}
-use Rattle.page_text.specs.PageSpelling.{begins_with, begins_start_tag, begins_end_tag, begins_comment, begins_markup, begins_nothing, begins_text}
+use Rattle.page_text.specs.PageSpelling.{begins_start_tag, begins_end_tag, begins_comment, begins_nothing, begins_text}
 use Rattle.page_text.specs.PageTags.{begins_doctype}
 use Rattle.page_text.proofs.PageParts.{not_both}
 use Rattle.page_text.proofs.PageValues.{same_front}

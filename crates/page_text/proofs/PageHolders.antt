@@ -1,22 +1,21 @@
 -- The elements whose content is one text, by the model and by the grammar.
-use Rattle.std.proofs.Common.{◌≡◌, ℕ, suc, zero, ◌<◌, ◌+◌, Bool, true, false, cond, nat_lt, nat_le, not, List, [], ◌∷◌, ◌++◌, Option, Some, None, length, drop, map, refl, ap, sym, ◌∙◌, arith, codes}
-use Rattle.std.specs.Prelude.{◌&&◌, ◌||◌, ◌==◌, is_some, slice_index, encode_utf8_all}
+use Rattle.std.proofs.Common.{◌≡◌, ℕ, suc, zero, ◌<◌, ◌+◌, Bool, true, false, cond, nat_lt, nat_le, not, List, [], ◌∷◌, ◌++◌, Some, None, length, drop, refl, ap, sym, ◌∙◌, arith, codes}
+use Rattle.std.specs.Prelude.{◌&&◌, ◌||◌, ◌==◌, encode_utf8_all}
 use Rattle.std.specs.Char.{to_ascii_lowercase}
-use Rattle.std.specs.Str.{IsAscii, IsUtf8, chars, bytes_eq}
+use Rattle.std.specs.Str.{IsAscii}
 use Rattle.std.proofs.lemmas.Bool.{and_parts, eqb-true}
 use Rattle.std.proofs.lemmas.Bool.Decides.{nat_tests}
 use Rattle.std.proofs.lemmas.Slice.Eq.{bytes_eq-Decides}
 use Rattle.std.proofs.lemmas.Str.{IsUtf8-from_ascii, encodes-chars}
-use Rattle.dom_semantics.specs.Whitespace.{is_white_space}
 use Rattle.page_text.specs.declared.scan.Raw.{Raw}
 use Rattle.page_text.specs.declared.scan.Raw.TheVariants.{Script, Style, Title, Textarea}
 use Rattle.page_text.specs.Bytes.{Bytes, is_letter, is_name_byte, begins, opens, lowered}
 use Rattle.page_text.specs.ScansModel.{raw_name}
 use Rattle.page_text.specs.ValuesModel.{spells}
 use Rattle.page_text.specs.Nodes.{is_named, is_void, raw_of}
-use Rattle.page_text.specs.PageSpelling.{AreAll, Run}
+use Rattle.page_text.specs.PageSpelling.{AreAll}
 use Rattle.page_text.specs.PageTags.{StartTag, IsStartTag, start_tag, IsEndTag, end_tag, tag_of}
-use Rattle.page_text.specs.PageGrammar.{HoldsText, text_in, is_text_holder, is_normal, is_behind_name, begins_end_of}
+use Rattle.page_text.specs.PageGrammar.{HoldsText, is_text_holder, is_normal, is_behind_name, begins_end_of}
 use Rattle.page_text.proofs.PageParts.{not_both, same_tail, one_run}
 
 -- ---- names

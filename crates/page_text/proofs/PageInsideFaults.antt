@@ -1,6 +1,5 @@
 -- What has a fault by the grammar inside an element whose content is one text, the model refuses by this fault.
-use Rattle.std.proofs.Common.{◌≡◌, ℕ, suc, ◌+◌, ◌<◌, ◌≤◌, ◌⊎◌, inl, inr, Bool, true, false, cond, nat_lt, List, [], ◌∷◌, ◌++◌, Option, Some, None, Ok, Err, length, drop, refl, ap, sym, ◌∙◌, subst, arith, add-one, append-nil, length-append}
-use Rattle.std.proofs.Common.{ltb}
+use Rattle.std.proofs.Common.{◌≡◌, ℕ, suc, ◌+◌, ◌<◌, ◌⊎◌, inl, inr, Bool, true, false, cond, List, [], ◌∷◌, ◌++◌, Ok, Err, length, refl, ap, sym, ◌∙◌, subst, arith, add-one, append-nil}
 use Rattle.std.proofs.lemmas.Bool.{lt-ltb}
 use Rattle.base_text.specs.declared.text.TheConstants.{TEXT_LIMIT}
 use Rattle.page_text.specs.declared.faults.PageKind.{PageKind}
@@ -11,19 +10,18 @@ use Rattle.page_text.specs.Bytes.{Bytes}
 use Rattle.page_text.specs.ScansModel.{before, from, stops, raw_name}
 use Rattle.page_text.specs.Outcomes.{Outcome, ◌>>=◌, checked}
 use Rattle.page_text.specs.TagsModel.{Tag, is_empty, end_tag_at}
-use Rattle.page_text.specs.StepsModel.{State, Stepped, room_at, made, read_raw, inside_at, filled, closed_raw, raw_step}
+use Rattle.page_text.specs.StepsModel.{State, room_at, read_raw, inside_at, raw_step}
 use Rattle.page_text.specs.PageSpelling.{NowhereIn, UpTo, IsRead}
 use Rattle.page_text.specs.PageNodes.{Nodes}
 use Rattle.page_text.specs.PageGrammar.{HasRoom, begins_end_of, IsTextInside}
-use Rattle.page_text.specs.PageGrammar as grammar
-use Rattle.page_text.specs.PageFaults.{HasNoRoom, HasTextInside, TextInsideFault, no_room_inside, no_end_tag, long_inside, bad_end_tag, EndTagFault}
+use Rattle.page_text.specs.PageFaults.{HasNoRoom, HasTextInside, TextInsideFault, no_room_inside, no_end_tag, long_inside, bad_end_tag}
 use Rattle.page_text.proofs.PageParts.{not_both, front_once}
 use Rattle.page_text.proofs.PageValues.{read_is}
 use Rattle.page_text.proofs.PageScans.{end_of_here}
 use Rattle.page_text.proofs.PageTagsRead.{checked_again}
 use Rattle.page_text.proofs.PageHolders.{reads_entities, raw_small, end_mark, end_letter}
 use Rattle.page_text.proofs.PageEndFaults.{end_refused}
-use Rattle.page_text.proofs.PageRaws.{raw_nothing, raw_some}
+use Rattle.page_text.proofs.PageRaws.{raw_some}
 use Rattle.page_text.proofs.PageRoom.{room_again, no_room_again}
 use Rattle.page_text.proofs.PageRawRuns.{same_read, inside_is, IsContent}
 

@@ -1,10 +1,9 @@
 -- What the model reads up to the end of a piece keeps its place in the page, and a fault that it comes to is one of the page.
-use Rattle.std.proofs.Common.{◌≡◌, ℕ, List, [], ◌∷◌, ◌++◌, Option, Some, None, Ok, Err, refl}
-use Rattle.page_text.specs.declared.faults.PageKind.{PageKind}
+use Rattle.std.proofs.Common.{◌≡◌, List, [], ◌∷◌, ◌++◌, Some, None, Ok, Err}
 use Rattle.page_text.specs.declared.pieces.Piece.{Piece}
 use Rattle.page_text.specs.Bytes.{Bytes}
 use Rattle.page_text.specs.Outcomes.{Outcome}
-use Rattle.page_text.specs.StepsModel.{State, Stepped, Next, Script, End, Steps}
+use Rattle.page_text.specs.StepsModel.{State, Next, Script, End}
 use Rattle.page_text.specs.PiecesModel as p
 use Rattle.page_text.specs.PiecesModel.{PieceEnd, PieceFrom}
 use Rattle.page_text.specs.PageNodes.{Nodes, pieces_of}

@@ -1,20 +1,17 @@
 -- Which parts of a start tag may be too long, behind attributes that aren't.
-use Rattle.std.proofs.Common.{◌≡◌, ℕ, suc, ◌<◌, ◌≤◌, ◌⊎◌, inl, inr, Bool, true, false, List, [], ◌∷◌, ◌++◌, length, map, refl, ap, sym, ◌∙◌, subst, arith, length-append}
+use Rattle.std.proofs.Common.{◌≡◌, ◌<◌, ◌≤◌, true, List, ◌∷◌, ◌++◌, length, refl, ap, sym, subst, arith, length-append}
 use Rattle.std.proofs.lemmas.List.{length-map}
 use Rattle.std.specs.Char.{to_ascii_lowercase}
-use Rattle.std.specs.Prelude.{◌==◌}
 use Rattle.base_text.specs.declared.text.TheConstants.{TEXT_LIMIT}
 use Rattle.dom_semantics.specs.Whitespace.{is_white_space}
-use Rattle.page_text.specs.declared.faults.PageKind.{PageKind}
-use Rattle.page_text.specs.declared.faults.PageKind.TheVariants.{TooLong, Unclosed, BadTag}
-use Rattle.page_text.specs.Bytes.{Bytes, is_attribute_byte, begins, sees, lowered}
-use Rattle.page_text.specs.PageSpelling.{AreAll, Run, Space, is_other, is_quote, is_unquoted, IsRead}
-use Rattle.page_text.specs.PageTags.{ReadAttribute, IsEquals, IsValue, quoted, unquoted, IsAttribute, bare, valued, AreAttributes, no_more, one_more, AreShort}
+use Rattle.page_text.specs.Bytes.{Bytes, is_attribute_byte, lowered}
+use Rattle.page_text.specs.PageSpelling.{Space}
+use Rattle.page_text.specs.PageTags.{ReadAttribute, IsValue, quoted, unquoted, IsAttribute, bare, valued, AreAttributes, no_more, one_more, AreShort}
 use Rattle.page_text.specs.PageFaults.{LongInAttribute, long_attribute, long_value}
-use Rattle.page_text.proofs.PageParts.{not_both, same_head, same_tail, run_same}
+use Rattle.page_text.proofs.PageParts.{run_same}
 use Rattle.page_text.proofs.PageValues.{read_once}
 use Rattle.page_text.proofs.PageTagParts.{equals_once, value_once, attribute_once, not_valued}
-use Rattle.page_text.proofs.PageMoved.{equals_moved, value_moved, attribute_moved, attributes_moved}
+use Rattle.page_text.proofs.PageMoved.{equals_moved}
 
 -- ---- lengths
 

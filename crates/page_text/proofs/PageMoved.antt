@@ -1,13 +1,12 @@
 -- The parts of a tag before another text: each stays what it is where what follows it stays of its kind.
-use Rattle.std.proofs.Common.{◌≡◌, ℕ, suc, ◌<◌, ◌≤◌, ◌⊎◌, inl, inr, Bool, true, false, not, List, [], ◌∷◌, ◌++◌, length, refl, ap, sym, ◌∙◌, arith, append_assoc, length-append}
-use Rattle.std.specs.Prelude.{◌||◌, ◌==◌}
+use Rattle.std.proofs.Common.{◌≡◌, ℕ, ◌<◌, Bool, true, false, List, [], ◌∷◌, ◌++◌, length, refl, ap, sym, ◌∙◌, arith, append_assoc, length-append}
+use Rattle.std.specs.Prelude.{◌==◌}
 use Rattle.std.proofs.lemmas.Bool.Decides.{nat_tests}
 use Rattle.dom_semantics.specs.Whitespace.{is_white_space}
-use Rattle.page_text.specs.Bytes.{Bytes, is_letter, is_name_byte, is_attribute_byte, begins, sees, lowered}
-use Rattle.page_text.specs.PageSpelling.{AreAll, Run, Space, is_quote, is_unquoted, is_other, IsRead}
-use Rattle.page_text.specs.PageTags.{ReadAttribute, StartTag, IsEquals, equals, IsValue, quoted, unquoted, IsAttribute, bare, valued, AreAttributes, no_more, one_more}
+use Rattle.page_text.specs.Bytes.{Bytes, is_name_byte, is_attribute_byte, begins, sees, lowered}
+use Rattle.page_text.specs.PageSpelling.{AreAll, Run, Space, is_quote, is_unquoted, IsRead}
+use Rattle.page_text.specs.PageTags.{ReadAttribute, IsEquals, equals, IsValue, quoted, unquoted, IsAttribute, bare, valued, AreAttributes, no_more, one_more}
 use Rattle.page_text.proofs.PageParts.{run_same}
-use Rattle.page_text.specs.PageTags.{EndsTag, closed, slashed, IsStartTag, start_tag, IsEndTag, end_tag}
 
 -- ---- fronts
 

@@ -1,29 +1,24 @@
 -- The model goes over all nodes that the grammar has at its place, inside an element and at the top.
-use Rattle.std.proofs.Common.{◌≡◌, ℕ, suc, ◌+◌, ◌<◌, ◌≤◌, Bool, true, false, cond, not, List, [], ◌∷◌, ◌++◌, Option, Some, None, Ok, Err, length, drop, map, refl, ap, sym, ◌∙◌, subst, arith, append_assoc, append-nil, length-append}
-use Rattle.std.specs.Prelude.{◌&&◌, ◌||◌, ◌==◌, encode_utf8_all}
+use Rattle.std.proofs.Common.{◌≡◌, ℕ, suc, ◌+◌, ◌<◌, Bool, true, false, cond, List, [], ◌∷◌, Ok, length, refl, ap, sym, ◌∙◌, subst, arith, append-nil, length-append}
+use Rattle.std.specs.Prelude.{◌&&◌, ◌||◌, ◌==◌}
 use Rattle.std.specs.Str.{chars}
 use Rattle.std.proofs.lemmas.Bool.{and_left}
 use Rattle.dom_semantics.specs.Whitespace.{is_white_space}
-use Rattle.door.specs.declared.requests.Request.{Request}
-use Rattle.page_text.specs.declared.pieces.Piece.{Piece}
-use Rattle.page_text.specs.declared.scan.Stop.TheVariants.{AfterSpace}
 use Rattle.page_text.specs.declared.tags.Attribute.{Attribute}
-use Rattle.page_text.specs.Bytes.{Bytes, begins}
-use Rattle.page_text.specs.ScansModel.{before, from, stops, raw_name}
-use Rattle.page_text.specs.Nodes.{the_document}
+use Rattle.page_text.specs.Bytes.{Bytes}
+use Rattle.page_text.specs.ScansModel.{raw_name}
 use Rattle.page_text.specs.TagsModel.{after_space, doctype_at}
 use Rattle.page_text.specs.StepsModel as m
 use Rattle.page_text.specs.StepsModel.{State, Next, Steps, parent, is_at_top, over_text, over_doctype, front_of}
 use Rattle.page_text.specs.PageSpelling.{UpTo, Space, begins_markup}
 use Rattle.page_text.specs.PageTags.{StartTag, IsStartTag, IsEndTag, IsComment, IsDoctype, IsShort, tag_of, attributes_of}
-use Rattle.page_text.specs.PageNodes.{Nodes, NoNodes, Element, Text, Comment, count, joined, Made, Build, cut, made_of}
-use Rattle.page_text.specs.PageGrammar.{HasRoom, HoldsText, begins_end_of, IsTextInside, is_normal, IsNodes, no_more, comment, text_run, void_element, text_element, normal_element}
+use Rattle.page_text.specs.PageNodes.{Nodes, NoNodes, Element, Text, Comment, count}
+use Rattle.page_text.specs.PageGrammar.{HasRoom, HoldsText, begins_end_of, IsTextInside, IsNodes, no_more, comment, text_run, void_element, text_element, normal_element}
 use Rattle.page_text.specs.PageGrammar.{IsTop, top_end, white_space, top_comment, top_doctype, top_element}
 use Rattle.page_text.proofs.PageParts.{run_once}
 use Rattle.page_text.proofs.PageScans.{space_here}
 use Rattle.page_text.proofs.PageTagsWhole.{doctype_again}
-use Rattle.page_text.proofs.PageHolders.{name_encoded, reads_entities}
-use Rattle.page_text.proofs.PageState.{piece_at}
+use Rattle.page_text.proofs.PageHolders.{name_encoded}
 use Rattle.page_text.proofs.PageFrontsAgain.{space_found, space_first, is_doctype_found}
 use Rattle.page_text.proofs.PageReaches.{Reaches, has_element, or_none, or_true, nothing_reached, reaches_at, reaches_joined, step_reaches, text_reached, comment_reached, void_reached}
 use Rattle.page_text.proofs.PageElementRuns.{opened_there, inner_there, element_reached, open_one}

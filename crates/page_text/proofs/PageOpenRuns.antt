@@ -1,19 +1,18 @@
 -- The model comes to each place of a page.
-use Rattle.std.proofs.Common.{◌≡◌, ℕ, suc, ◌+◌, Bool, true, false, List, [], ◌∷◌, ◌++◌, Option, Some, None, Ok, length, drop, map, refl, ap, sym, ◌∙◌, subst, arith, append_assoc, append-nil, add-one, length-append}
+use Rattle.std.proofs.Common.{◌≡◌, ℕ, suc, ◌+◌, Bool, true, false, List, [], ◌∷◌, ◌++◌, None, length, map, refl, ap, sym, ◌∙◌, subst, arith, append_assoc, append-nil}
 use Rattle.std.specs.Prelude.{◌&&◌, ◌||◌, ◌==◌}
 use Rattle.std.proofs.lemmas.Bool.{and_left}
 use Rattle.door.specs.declared.values.Kind.TheVariants as kind
 use Rattle.page_text.specs.declared.pieces.Piece.{Piece}
-use Rattle.page_text.specs.Bytes.{Bytes, lowered}
+use Rattle.page_text.specs.Bytes.{Bytes}
 use Rattle.page_text.specs.Nodes.{the_document, thing_of, element_writes}
-use Rattle.page_text.specs.TagsModel.{name_of}
 use Rattle.page_text.specs.StepsModel as m
 use Rattle.page_text.specs.StepsModel.{Open, State, Next, Steps, parent, is_at_top}
 use Rattle.page_text.specs.PageModel.{start}
 use Rattle.page_text.specs.PageTags.{StartTag, IsStartTag, IsShort, tag_of, attributes_of}
-use Rattle.page_text.specs.PageNodes.{Nodes, NoNodes, count, joined, Made, Build, cut, made_of}
-use Rattle.page_text.specs.PageGrammar.{HasRoom, IsNodes, IsTop, is_normal}
-use Rattle.page_text.specs.PageOpen.{Opening, Opens, opening, begun, IsInside, here, deeper, IsOpenAt, at_top, in_element, is_top}
+use Rattle.page_text.specs.PageNodes.{Nodes, count, joined, Made, Build, cut, made_of}
+use Rattle.page_text.specs.PageGrammar.{HasRoom, IsTop, is_normal}
+use Rattle.page_text.specs.PageOpen.{Opening, opening, begun, IsInside, here, deeper, IsOpenAt, at_top, in_element, is_top}
 use Rattle.page_text.proofs.PageJoined.{count_joined}
 use Rattle.page_text.proofs.PageGrown.{parent_in, made_begun}
 use Rattle.page_text.proofs.PageState.{open_as, listed, listed_length, top_listed, parent_listed, piece_at}

@@ -1,6 +1,5 @@
 -- The nodes so far of a page, with more behind them, an element begun there, or the innermost one ended.
-use Rattle.std.proofs.Common.{◌≡◌, ℕ, suc, ◌+◌, ◌≤◌, Bool, true, false, not, List, [], ◌∷◌, ◌++◌, length, map, refl, ap, sym, ◌∙◌, subst, arith, append_assoc, append-nil}
-use Rattle.std.specs.Prelude.{◌&&◌}
+use Rattle.std.proofs.Common.{◌≡◌, ℕ, suc, ◌+◌, Bool, true, false, List, [], ◌∷◌, ◌++◌, length, map, refl, ap, sym, ◌∙◌, subst, arith, append_assoc, append-nil}
 use Rattle.page_text.specs.Bytes.{Bytes}
 use Rattle.page_text.specs.Nodes.{the_document, element_writes}
 use Rattle.page_text.specs.PageTags.{StartTag, IsEndTag, tag_of, attributes_of}

@@ -1,13 +1,12 @@
 -- What follows a part of a page is the rest of its text, and so is the text from a fault's place on.
-use Rattle.std.proofs.Common.{◌≡◌, ℕ, suc, ◌+◌, Bool, List, [], ◌∷◌, ◌++◌, length, refl, ap, sym, ◌∙◌, subst, append_assoc, append-nil, codes}
+use Rattle.std.proofs.Common.{◌≡◌, ℕ, suc, ◌+◌, Bool, List, [], ◌∷◌, refl, subst, codes}
 use Rattle.page_text.specs.declared.faults.PageKind.{PageKind}
 use Rattle.page_text.specs.Bytes.{Bytes}
-use Rattle.page_text.specs.PageSpelling.{UpTo, Space}
 use Rattle.page_text.specs.PageTags.{StartTag, IsStartTag, start_tag, IsEndTag, end_tag, IsComment, comment, IsDoctype, doctype}
 use Rattle.page_text.specs.PageNodes.{Nodes, NoNodes, Element, Comment, count}
 use Rattle.page_text.specs.PageGrammar.{IsNodes, no_more, text_run, void_element, text_element, normal_element, IsTop, top_end, white_space, top_comment, top_doctype, top_element}
 use Rattle.page_text.specs.PageGrammar as grammar
-use Rattle.page_text.specs.PageOpen.{Opening, Opens, opening, IsInside, here, deeper, IsOpenAt, at_top, in_element, IsInnermost}
+use Rattle.page_text.specs.PageOpen.{Opening, opening, IsInside, here, deeper, IsOpenAt, at_top, in_element, IsInnermost}
 use Rattle.page_text.specs.PageFaults as f
 use Rattle.page_text.specs.PageFaults.{StartTagFault, EndTagFault, TextInsideFault, CommentFault, ElementFault, FaultAt, IsFault}
 use Rattle.page_text.proofs.PageMoved.{attributes_moved}

@@ -1,14 +1,12 @@
 -- What a step of the model refuses of an element is a fault at its place in the page.
-use Rattle.std.proofs.Common.{◌≡◌, ℕ, suc, ◌+◌, ◌<◌, ◌≤◌, ◌⊎◌, inl, inr, Bool, true, false, cond, not, List, [], ◌∷◌, ◌++◌, Option, Some, None, Ok, Err, length, drop, refl, ap, sym, ◌∙◌, subst, arith, length-append, codes}
-use Rattle.std.specs.Prelude.{◌&&◌, ◌==◌}
-use Rattle.std.specs.Str.{chars}
+use Rattle.std.proofs.Common.{◌≡◌, ℕ, suc, ◌+◌, ◌<◌, Bool, true, false, cond, List, [], ◌∷◌, Some, Ok, Err, length, refl, ap, sym, ◌∙◌, subst, arith, length-append}
 use Rattle.base_text.specs.declared.text.TheConstants.{TEXT_LIMIT}
 use Rattle.page_text.specs.declared.faults.PageKind.{PageKind}
 use Rattle.page_text.specs.declared.faults.PageKind.TheVariants.{TooLong, Unclosed}
 use Rattle.page_text.specs.declared.pieces.Piece.{Piece}
 use Rattle.page_text.specs.declared.scan.Raw.{Raw}
 use Rattle.page_text.specs.declared.scan.Stop.TheVariants.{AtEndOf}
-use Rattle.page_text.specs.Bytes.{Bytes, begins}
+use Rattle.page_text.specs.Bytes.{Bytes}
 use Rattle.page_text.specs.ScansModel.{before, from, stops, raw_name}
 use Rattle.page_text.specs.Outcomes.{Outcome, ◌>>=◌, checked}
 use Rattle.page_text.specs.Nodes.{raw_of}
@@ -18,9 +16,9 @@ use Rattle.page_text.specs.StepsModel.{State, Stepped, front_of, room_at, made, 
 use Rattle.page_text.specs.PageSpelling.{NowhereIn, UpTo}
 use Rattle.page_text.specs.PageTags.{tag_of}
 use Rattle.page_text.specs.PageNodes.{count}
-use Rattle.page_text.specs.PageGrammar.{HasRoom, HoldsText, begins_end_of}
+use Rattle.page_text.specs.PageGrammar.{HasRoom, begins_end_of}
 use Rattle.page_text.specs.PageOpen.{may_begin}
-use Rattle.page_text.specs.PageFaults.{HasNoRoom, HasTextInside, TextInsideFault, no_room_inside, no_end_tag, long_inside, bad_end_tag, ElementFault, in_text, FaultAt, in_element}
+use Rattle.page_text.specs.PageFaults.{HasNoRoom, HasTextInside, TextInsideFault, no_room_inside, no_end_tag, long_inside, bad_end_tag, in_text, in_element}
 use Rattle.page_text.proofs.PageParts.{not_both}
 use Rattle.page_text.proofs.PageScans.{end_of_here}
 use Rattle.page_text.proofs.PageTagsRead.{err_ok, err_same}
@@ -29,8 +27,8 @@ use Rattle.page_text.proofs.PageFronts.{start_begins}
 use Rattle.page_text.proofs.PageHolders.{name_encoded, reads_entities, holder_of, raw_small, end_letter, end_mark}
 use Rattle.page_text.proofs.PageEndFaults.{end_err}
 use Rattle.page_text.proofs.PageTagRefused.{Refused, at_first, and_then, bind_err, checked_err}
-use Rattle.page_text.proofs.PageState.{IsState, IsNoRoom, depth_is, room_err}
-use Rattle.page_text.proofs.PageRaws.{raw_read, raw_nothing, room_in, IsRawRead, inside_read, stop_there, raw_some}
+use Rattle.page_text.proofs.PageState.{IsState, depth_is, room_err}
+use Rattle.page_text.proofs.PageRaws.{raw_read, raw_nothing, room_in, inside_read, stop_there, raw_some}
 use Rattle.page_text.proofs.PageRefusals.{to_the_end, Fails}
 
 -- ---- what is inside

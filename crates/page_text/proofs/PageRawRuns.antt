@@ -1,11 +1,10 @@
 -- The model goes over an element whose content is one text.
-use Rattle.std.proofs.Common.{◌≡◌, ℕ, suc, ◌+◌, ◌<◌, ◌≤◌, Bool, true, false, cond, List, [], ◌∷◌, ◌++◌, Option, Some, None, Ok, Err, length, drop, map, refl, ap, sym, ◌∙◌, subst, arith, append_assoc, append-nil, add-one, codes}
+use Rattle.std.proofs.Common.{◌≡◌, ℕ, suc, ◌+◌, ◌<◌, ◌≤◌, Bool, true, false, cond, List, [], ◌∷◌, ◌++◌, Option, Some, None, Ok, length, map, refl, ap, sym, ◌∙◌, subst, arith, append_assoc, append-nil, add-one, codes}
 use Rattle.std.specs.Prelude.{◌&&◌, encode_utf8_all}
 use Rattle.std.specs.Str.{chars}
 use Rattle.door.specs.declared.requests.Request.{Request}
 use Rattle.door.specs.declared.values.Kind.TheVariants as kind
 use Rattle.base_text.specs.declared.text.TheConstants.{TEXT_LIMIT}
-use Rattle.page_text.specs.declared.faults.PageKind.TheVariants.{Unclosed}
 use Rattle.page_text.specs.declared.pieces.Piece.{Piece}
 use Rattle.page_text.specs.declared.scan.Raw.{Raw}
 use Rattle.page_text.specs.declared.scan.Raw.TheVariants as kinds
@@ -13,10 +12,10 @@ use Rattle.page_text.specs.declared.scan.Stop.TheVariants.{AtEndOf}
 use Rattle.page_text.specs.declared.tags.Attribute.{Attribute}
 use Rattle.page_text.specs.Bytes.{Bytes}
 use Rattle.page_text.specs.ScansModel.{before, from, stops, raw_name}
-use Rattle.page_text.specs.Outcomes.{Outcome, ◌>>=◌, checked}
+use Rattle.page_text.specs.Outcomes.{Outcome}
 use Rattle.page_text.specs.Nodes.{thing_of, text_writes, element_writes, is_named, is_void, raw_of, value_of, is_runnable}
-use Rattle.page_text.specs.TagsModel.{Tag, is_empty, end_tag_at}
-use Rattle.page_text.specs.StepsModel.{State, Stepped, Next, Script, Steps, parent, room_at, made, read_raw, inside_at, filled, with_external, closed_raw, raw_step, is_at_top, tag_step}
+use Rattle.page_text.specs.TagsModel.{Tag, is_empty}
+use Rattle.page_text.specs.StepsModel.{State, Stepped, Next, Script, Steps, parent, room_at, made, read_raw, inside_at, filled, with_external, closed_raw, raw_step, is_at_top}
 use Rattle.page_text.specs.PageSpelling.{UpTo}
 use Rattle.page_text.specs.PageTags.{StartTag, IsStartTag, IsEndTag, end_tag, IsShort, tag_of, attributes_of}
 use Rattle.page_text.specs.PageNodes.{Nodes, NoNodes, Element, Text, count, Made, Build, cut, made_at_end, made_of, text_inside, external_of}
@@ -28,7 +27,7 @@ use Rattle.page_text.proofs.PageValues.{read_is, read_as}
 use Rattle.page_text.proofs.PageScans.{end_of_here}
 use Rattle.page_text.proofs.PageTagsRead.{checked_again, no_chars}
 use Rattle.page_text.proofs.PageTagsWhole.{end_again}
-use Rattle.page_text.proofs.PageHolders.{name_encoded, named_word, reads_entities}
+use Rattle.page_text.proofs.PageHolders.{named_word, reads_entities}
 use Rattle.page_text.proofs.PageCuts.{builds_behind, external_behind, script_behind}
 use Rattle.page_text.proofs.PageState.{piece_at, cut_off}
 use Rattle.page_text.proofs.PageRaws.{raw_nothing, ended_by, at_end, inside_writes, made_inside, inside_of}

@@ -1,27 +1,25 @@
 -- A step of the model over an element whose content is one text keeps its place in the page.
-use Rattle.std.proofs.Common.{◌≡◌, ℕ, suc, ◌+◌, ◌<◌, ◌≤◌, ◌⊎◌, inl, inr, Bool, true, false, cond, List, [], ◌∷◌, ◌++◌, Option, Some, None, Ok, Err, length, drop, map, refl, ap, sym, ◌∙◌, subst, arith, append_assoc, append-nil, add-one, codes}
+use Rattle.std.proofs.Common.{◌≡◌, ℕ, suc, ◌+◌, ◌<◌, ◌≤◌, ◌⊎◌, inl, inr, Bool, true, false, cond, List, [], ◌∷◌, ◌++◌, Option, Some, None, Ok, Err, length, map, refl, ap, sym, ◌∙◌, subst, arith, append_assoc, append-nil, add-one, codes}
 use Rattle.std.specs.Prelude.{encode_utf8_all}
 use Rattle.std.specs.Str.{chars}
 use Rattle.door.specs.declared.requests.Request.{Request}
 use Rattle.door.specs.declared.values.Kind.TheVariants as kind
 use Rattle.base_text.specs.declared.text.TheConstants.{TEXT_LIMIT}
-use Rattle.page_text.specs.declared.faults.PageKind.{PageKind}
 use Rattle.page_text.specs.declared.faults.PageKind.TheVariants.{Unclosed}
 use Rattle.page_text.specs.declared.pieces.Piece.{Piece}
 use Rattle.page_text.specs.declared.scan.Raw.{Raw}
 use Rattle.page_text.specs.declared.scan.Raw.TheVariants as kinds
 use Rattle.page_text.specs.declared.scan.Stop.TheVariants.{AtEndOf}
 use Rattle.page_text.specs.declared.tags.Attribute.{Attribute}
-use Rattle.page_text.specs.Bytes.{Bytes, is_letter, begins}
+use Rattle.page_text.specs.Bytes.{Bytes}
 use Rattle.page_text.specs.ScansModel.{before, from, stops, raw_name}
 use Rattle.page_text.specs.ValuesModel.{with_line_ends, unescaped_past}
 use Rattle.page_text.specs.Outcomes.{Outcome, ◌>>=◌, checked}
-use Rattle.page_text.specs.Nodes.{the_document, thing_of, text_writes, element_writes, is_named, raw_of, value_of, is_runnable}
+use Rattle.page_text.specs.Nodes.{the_document, thing_of, text_writes, element_writes, raw_of, value_of, is_runnable}
 use Rattle.page_text.specs.TagsModel.{Tag, is_empty, end_tag_at}
-use Rattle.page_text.specs.StepsModel as m
-use Rattle.page_text.specs.StepsModel.{State, Stepped, Next, Script, End, parent, room_at, made, read_raw, inside_at, filled, with_external, scripted, closed_raw, raw_step}
+use Rattle.page_text.specs.StepsModel.{State, Stepped, Next, Script, parent, room_at, made, read_raw, inside_at, filled, with_external, closed_raw, raw_step}
 use Rattle.page_text.specs.PageSpelling.{UpTo, IsRead, as_it_stands}
-use Rattle.page_text.specs.PageTags.{StartTag, IsStartTag, IsEndTag, tag_of, attributes_of}
+use Rattle.page_text.specs.PageTags.{IsEndTag, tag_of, attributes_of}
 use Rattle.page_text.specs.PageNodes.{Nodes, NoNodes, Element, Text, count, Made, Build, made_at_end, made_of, text_inside, external_of, cut}
 use Rattle.page_text.specs.PageNodes as tree
 use Rattle.page_text.specs.PageGrammar.{HasRoom, HoldsText, IsTextInside, begins_end_of, IsNodes, no_more, text_element}
@@ -34,9 +32,8 @@ use Rattle.page_text.proofs.PageTagsRead.{bind_ok, err_ok, ok_same, checked_ok, 
 use Rattle.page_text.proofs.PageTagsWhole.{IsTagRead, end_ok}
 use Rattle.page_text.proofs.PageHolders.{name_encoded, reads_entities, holder_of, raw_small, end_named, end_letter}
 use Rattle.page_text.proofs.PageGrown.{parent_in}
-use Rattle.page_text.proofs.PageCuts.{external_behind, script_behind, builds_behind, with_name, empty_piece}
-use Rattle.page_text.proofs.PageOpened.{GrownAt}
-use Rattle.page_text.proofs.PageState.{listed, piece_at, cut_off, IsState, Went, depth_is, parent_is, room_ok}
+use Rattle.page_text.proofs.PageCuts.{external_behind, script_behind, builds_behind}
+use Rattle.page_text.proofs.PageState.{listed, piece_at, IsState, Went, depth_is, parent_is, room_ok}
 use Rattle.page_text.proofs.PageSteps.{grow_element}
 
 -- ---- what is inside

@@ -1,39 +1,37 @@
 -- The model goes over what the grammar has at its place: runs over nodes side by side, and over one comment, one run of text, or one void element.
-use Rattle.std.proofs.Common.{◌≡◌, ℕ, suc, ◌+◌, ◌<◌, ◌≤◌, ◌⊎◌, inl, inr, Bool, true, false, cond, List, [], ◌∷◌, ◌++◌, Option, Some, None, Ok, Err, length, drop, map, refl, ap, sym, ◌∙◌, subst, arith, append_assoc, append-nil, codes}
-use Rattle.std.specs.Prelude.{◌&&◌, ◌||◌, ◌==◌}
+use Rattle.std.proofs.Common.{◌≡◌, suc, ◌+◌, ◌<◌, ◌≤◌, Bool, true, false, List, [], ◌∷◌, ◌++◌, None, Ok, length, map, refl, ap, sym, ◌∙◌, subst, arith, append_assoc, append-nil}
+use Rattle.std.specs.Prelude.{◌&&◌, ◌||◌}
 use Rattle.std.specs.Str.{chars}
-use Rattle.dom_semantics.specs.Whitespace.{is_white_space}
 use Rattle.door.specs.declared.requests.Request.{Request}
 use Rattle.base_text.specs.declared.text.TheConstants.{TEXT_LIMIT}
-use Rattle.page_text.specs.declared.faults.PageKind.{PageKind}
 use Rattle.page_text.specs.declared.pieces.Piece.{Piece}
-use Rattle.page_text.specs.declared.scan.Stop.TheVariants.{AfterSpace, AtMarkup}
-use Rattle.page_text.specs.Bytes.{Bytes, begins}
+use Rattle.page_text.specs.declared.scan.Stop.TheVariants.{AtMarkup}
+use Rattle.page_text.specs.Bytes.{Bytes}
 use Rattle.page_text.specs.ScansModel.{before, from, stops}
 use Rattle.page_text.specs.ValuesModel.{read_value}
-use Rattle.page_text.specs.Outcomes.{Outcome, ◌>>=◌, checked}
+use Rattle.page_text.specs.Outcomes.{Outcome, checked}
 use Rattle.page_text.specs.Nodes.{text_writes, comment_writes, element_writes, is_void}
 use Rattle.page_text.specs.TagsModel.{Tag, after_space}
 use Rattle.page_text.specs.TagsModel as t
 use Rattle.page_text.specs.StepsModel as m
 use Rattle.page_text.specs.StepsModel.{State, Stepped, Next, Steps, parent, room, room_at, made, is_at_top, tag_step, ElementStep, element, over_text, over_comment, over_element, over_doctype, front_of}
-use Rattle.page_text.specs.PageSpelling.{UpTo, Space, begins_markup, IsRead}
+use Rattle.page_text.specs.PageSpelling.{UpTo, begins_markup, IsRead}
 use Rattle.page_text.specs.PageTags.{StartTag, IsStartTag, IsComment, IsShort, tag_of, attributes_of}
 use Rattle.page_text.specs.PageNodes.{Nodes, NoNodes, Element, Text, Comment, count, joined, Made, Build, cut, made_at_end, made_of}
 use Rattle.page_text.specs.PageGrammar.{HasRoom}
-use Rattle.page_text.proofs.PageParts.{front_once, run_once}
+use Rattle.page_text.proofs.PageParts.{front_once}
 use Rattle.page_text.proofs.PageValues.{value_is}
-use Rattle.page_text.proofs.PageScans.{markup_here, space_here}
+use Rattle.page_text.proofs.PageScans.{markup_here}
 use Rattle.page_text.proofs.PageTagsRead.{checked_again}
 use Rattle.page_text.proofs.PageTagsWhole.{start_again, comment_again}
 use Rattle.page_text.proofs.PageHolders.{void_no_script}
 use Rattle.page_text.proofs.PageJoined.{count_joined}
-use Rattle.page_text.proofs.PageGrown.{made_moved, made_joined}
+use Rattle.page_text.proofs.PageGrown.{made_joined}
 use Rattle.page_text.proofs.PageCuts.{builds_behind}
-use Rattle.page_text.proofs.PageState.{piece_at, cut_off}
+use Rattle.page_text.proofs.PageState.{piece_at}
 use Rattle.page_text.proofs.PageRoom.{room_again}
 use Rattle.page_text.proofs.PageFrontsAgain.{text_found, run_begins_text, is_comment_found, is_start_found}
-use Rattle.page_text.proofs.PageRuns.{Run, stays, past_step, one_step, run_on}
+use Rattle.page_text.proofs.PageRuns.{Run, stays, one_step, run_on}
 
 -- whether an element is among these nodes
 abbrev pub has_element : Nodes → Bool

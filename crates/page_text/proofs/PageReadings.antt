@@ -1,5 +1,5 @@
 -- What a reader promises of its answers follows from what the model reads.
-use Rattle.std.proofs.Common.{◌≡◌, ℕ, ◌+◌, ◌-◌, ◌<◌, ◌≤◌, Bool, true, false, cond, nat_lt, List, [], ◌∷◌, ◌++◌, Option, Some, None, Result, Ok, Err, IfOk, IfErr, length, drop, refl, ap, sym, ◌∙◌, subst, arith, append_assoc, append-nil, length-append}
+use Rattle.std.proofs.Common.{◌≡◌, ℕ, ◌-◌, ◌<◌, ◌≤◌, Bool, true, false, cond, List, [], ◌∷◌, ◌++◌, Option, Some, None, Result, Ok, Err, IfOk, IfErr, length, drop, refl, ap, sym, ◌∙◌, subst, arith, append-nil, length-append}
 use Rattle.std.proofs.Common.{ltb}
 use Rattle.std.proofs.lemmas.Bool.{ltb-true, ltb-false}
 use Rattle.std.specs.Str.{is_utf8}
@@ -15,23 +15,20 @@ use Rattle.page_text.specs.declared.reader.Over.{Over}
 use Rattle.page_text.specs.declared.reader.Over.TheVariants.{No, Ended, Refused}
 use Rattle.page_text.specs.Bytes.{Bytes}
 use Rattle.page_text.specs.ValuesModel.{spells}
-use Rattle.page_text.specs.Outcomes.{Outcome}
-use Rattle.page_text.specs.PageReading.{State, Progress, IsState, IsBetween, IsAtBy, IsAt, Goes, Refuses, IsRead, IsMet, IsSettled}
-use Rattle.page_text.specs.PiecesModel.{PieceEnd, PieceFrom}
+use Rattle.page_text.specs.PageReading.{State, Progress, IsState, IsBetween, IsAtBy, IsAt, Goes, Refuses, IsRead, IsMet}
 use Rattle.page_text.specs.PageModel as model
 use Rattle.page_text.specs.PageModel.{without_mark, start, fault_at, start_text, start_size, at_start, checked_page, first, piece_of, behind, IsNext, IsStuck}
-use Rattle.page_text.specs.PageNodes.{NoNodes, Nodes, pieces_of}
-use Rattle.page_text.specs.PageGrammar.{IsDocument, top_end}
+use Rattle.page_text.specs.PageNodes.{NoNodes}
+use Rattle.page_text.specs.PageGrammar.{top_end}
 use Rattle.page_text.specs.PageOpen.{at_top}
-use Rattle.page_text.specs.PageFaults.{IsFault, DropsMark, marked, unmarked, IsText, IsPage, page, IsFaulty, long_page, not_utf8, no_page}
+use Rattle.page_text.specs.PageFaults.{DropsMark, marked, unmarked, IsText, IsPage, page, IsFaulty, long_page, not_utf8, no_page}
 use Rattle.page_text.proofs.Reading.{spelled_front}
 use Rattle.page_text.proofs.PageParts.{not_both}
 use Rattle.page_text.proofs.PageValues.{same_front}
-use Rattle.page_text.proofs.PageState.{piece_at, cut_off}
 use Rattle.page_text.proofs.PageKeptPieces.{KeptPiece, piece_kept}
 use Rattle.page_text.proofs.PageStartOnce.{IsRestOf, rest_on}
 use Rattle.page_text.proofs.PagePlaces.{fault_rest}
-use Rattle.page_text.proofs.PageRuns.{Run, Ends, ends_rest, Fits, piece_fits, ends_once}
+use Rattle.page_text.proofs.PageRuns.{Ends, ends_rest, Fits, piece_fits, ends_once}
 use Rattle.page_text.proofs.PageRunsWhole.{page_ends, fault_ends, state_run}
 
 -- ---- the text of a page

@@ -1,14 +1,12 @@
 -- What a step of the model refuses is a fault at its place in the page: of text, comments, doctypes and end tags.
-use Rattle.std.proofs.Common.{◌≡◌, ℕ, suc, ◌+◌, ◌<◌, ◌⊎◌, inl, inr, Bool, true, false, cond, not, List, [], ◌∷◌, ◌++◌, Option, Some, None, Ok, Err, length, drop, refl, ap, sym, ◌∙◌, subst, append-nil, codes}
-use Rattle.std.specs.Prelude.{◌&&◌, ◌==◌}
-use Rattle.std.specs.Str.{chars, bytes_eq}
+use Rattle.std.proofs.Common.{◌≡◌, ℕ, suc, ◌+◌, ◌⊎◌, inl, inr, Bool, true, false, cond, List, [], ◌∷◌, ◌++◌, Ok, Err, drop, refl, ap, sym, ◌∙◌, subst, append-nil, codes}
+use Rattle.std.specs.Str.{bytes_eq}
 use Rattle.std.proofs.lemmas.Slice.Eq.{bytes_eq-Decides}
-use Rattle.base_text.specs.declared.text.TheConstants.{TEXT_LIMIT}
 use Rattle.page_text.specs.declared.faults.PageKind.{PageKind}
 use Rattle.page_text.specs.declared.faults.PageKind.TheVariants.{TooLong, Unclosed, WrongEnd}
 use Rattle.page_text.specs.declared.pieces.Piece.{Piece}
 use Rattle.page_text.specs.declared.scan.Stop.TheVariants.{AtMarkup, AtByte, AtCommentEnd}
-use Rattle.page_text.specs.Bytes.{Bytes, begins, sees, is_letter}
+use Rattle.page_text.specs.Bytes.{Bytes, sees}
 use Rattle.page_text.specs.ScansModel.{before, from, stops}
 use Rattle.page_text.specs.ValuesModel.{spells, with_line_ends, read_value}
 use Rattle.page_text.specs.Outcomes.{Outcome, ◌>>=◌, checked}
@@ -16,12 +14,12 @@ use Rattle.page_text.specs.Nodes.{text_writes, comment_writes}
 use Rattle.page_text.specs.TagsModel.{comment_at, doctype_at, end_tag_at}
 use Rattle.page_text.specs.StepsModel as m
 use Rattle.page_text.specs.StepsModel.{Open, State, front_of, innermost, outer, parent, room}
-use Rattle.page_text.specs.PageSpelling.{AreAll, NowhereIn, UpTo, is_other, begins_comment, as_it_stands}
+use Rattle.page_text.specs.PageSpelling.{AreAll, NowhereIn, UpTo, is_other, as_it_stands}
 use Rattle.page_text.specs.PageTags.{begins_doctype, begins_comment_end, IsComment, IsEndTag}
 use Rattle.page_text.specs.PageTags as tags
 use Rattle.page_text.specs.PageNodes.{count}
-use Rattle.page_text.specs.PageOpen.{Opening, IsInnermost, EndsInnermost, is_top, may_declare}
-use Rattle.page_text.specs.PageFaults.{CommentFault, no_comment_end, long_comment, FaultAt, unclosed, no_doctype_end, no_room_for_comment, no_room_for_text, in_comment, long_text, in_end_tag, wrong_end}
+use Rattle.page_text.specs.PageOpen.{Opening, EndsInnermost, is_top, may_declare}
+use Rattle.page_text.specs.PageFaults.{CommentFault, no_comment_end, long_comment, FaultAt, no_doctype_end, no_room_for_comment, no_room_for_text, in_comment, long_text, in_end_tag, wrong_end}
 use Rattle.page_text.proofs.Reading.{spelled_front}
 use Rattle.page_text.proofs.PageParts.{not_both}
 use Rattle.page_text.proofs.PageValues.{same_front, line_ends_here, value_here}

@@ -1,11 +1,9 @@
 -- Where the grammar has room for a node the model has, and where it has none the model has none.
-use Rattle.std.proofs.Common.{◌≡◌, ℕ, suc, ◌<◌, ◌≤◌, Bool, true, false, cond, nat_le, Ok, Err, refl, arith}
+use Rattle.std.proofs.Common.{◌≡◌, ℕ, suc, Ok, Err, refl, arith}
 use Rattle.std.proofs.lemmas.Bool.{le-leb, lt-leb}
 use Rattle.door.specs.declared.limits.TheConstants.{DEPTH_LIMIT, NODE_LIMIT}
 use Rattle.page_text.specs.declared.faults.PageKind.{PageKind}
-use Rattle.page_text.specs.declared.faults.PageKind.TheVariants.{TooLong, TooDeep}
 use Rattle.page_text.specs.Bytes.{Bytes}
-use Rattle.page_text.specs.Outcomes.{Outcome}
 use Rattle.page_text.specs.StepsModel.{room_at}
 use Rattle.page_text.specs.PageGrammar.{HasRoom}
 use Rattle.page_text.specs.PageFaults.{HasNoRoom, too_many, too_deep}

@@ -1,18 +1,16 @@
 -- The whole of a page, or a fault of it, by the grammar is what the model comes to; and the model comes to each place that the reader may stand at.
-use Rattle.std.proofs.Common.{◌≡◌, ℕ, suc, ◌+◌, Bool, true, false, List, [], ◌∷◌, ◌++◌, Option, Some, None, Ok, Err, length, refl, ap, sym, ◌∙◌, subst, arith, append-nil}
+use Rattle.std.proofs.Common.{◌≡◌, ℕ, suc, Bool, List, [], ◌∷◌, ◌++◌, Some, None, Ok, refl, ap, sym, ◌∙◌, subst, arith, append-nil}
 use Rattle.door.specs.declared.requests.Request.{Request}
 use Rattle.page_text.specs.declared.faults.PageKind.{PageKind}
 use Rattle.page_text.specs.declared.pieces.Piece.{Piece}
 use Rattle.page_text.specs.Bytes.{Bytes}
-use Rattle.page_text.specs.Nodes.{the_document}
 use Rattle.page_text.specs.StepsModel as m
 use Rattle.page_text.specs.StepsModel.{Open, State, End, Steps, innermost, front_of, over_end}
 use Rattle.page_text.specs.PageModel.{start}
-use Rattle.page_text.specs.PageNodes.{Nodes, count, cut, made_of, pieces_of}
+use Rattle.page_text.specs.PageNodes.{Nodes, count, pieces_of}
 use Rattle.page_text.specs.PageGrammar.{IsDocument}
-use Rattle.page_text.specs.PageOpen.{IsOpenAt, at_top}
+use Rattle.page_text.specs.PageOpen.{at_top}
 use Rattle.page_text.specs.PageFaults.{FaultAt, IsFault}
-use Rattle.page_text.proofs.PageParts.{not_both}
 use Rattle.page_text.proofs.PageState.{piece_at, IsState}
 use Rattle.page_text.proofs.PageRuns.{Run, Ends, at_end, at_fault, ends_behind}
 use Rattle.page_text.proofs.PageOpenRuns.{open_run}

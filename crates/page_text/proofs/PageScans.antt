@@ -1,17 +1,16 @@
 -- What the model finds before and from the first place of some kind are the runs and fronts of the grammar.
-use Rattle.std.proofs.Common.{◌≡◌, ℕ, ◌<◌, ◌⊎◌, inl, inr, Bool, true, false, cond, nat_lt, not, [], ◌∷◌, ◌++◌, length, drop, refl, ap, sym, ◌∙◌, arith, codes}
+use Rattle.std.proofs.Common.{◌≡◌, ℕ, ◌<◌, ◌⊎◌, inl, inr, Bool, true, false, cond, nat_lt, not, [], ◌∷◌, refl, ap, sym, ◌∙◌, arith}
 use Rattle.std.specs.Prelude.{◌&&◌, ◌||◌, ◌==◌, ◌+◌}
 use Rattle.std.specs.Char.{to_ascii_lowercase}
 use Rattle.std.proofs.lemmas.Bool.Decides.{nat_tests}
 use Rattle.dom_semantics.specs.Whitespace.{is_white_space}
 use Rattle.page_text.specs.declared.scan.Stop.TheVariants.{AfterSpace, AfterName, AfterAttribute, AfterUnquoted, AtByte, AtCommentEnd, AtMarkup, AtEndOf}
 use Rattle.page_text.specs.declared.scan.Raw.{Raw}
-use Rattle.page_text.specs.Bytes.{Bytes, is_name_byte, is_attribute_byte, begins, sees, opens}
+use Rattle.page_text.specs.Bytes.{Bytes, is_name_byte, is_attribute_byte, begins}
 use Rattle.page_text.specs.ScansModel.{before, from, stops, raw_name}
 use Rattle.page_text.specs.PageSpelling.{AreAll, Run, Space, NowhereIn, UpTo, is_other, is_unquoted, begins_markup}
 use Rattle.page_text.specs.PageTags.{begins_comment_end}
 use Rattle.page_text.specs.PageGrammar.{begins_end_of}
-use Rattle.page_text.proofs.PageParts.{run_once, front_once}
 use Rattle.page_text.proofs.Scanning.{parts_join, from_stops}
 
 -- ---- runs

@@ -1,7 +1,7 @@
 -- What the model refuses as a start tag is none, by this fault, and what is no start tag is refused so.
-use Rattle.std.proofs.Common.{◌≡◌, ℕ, suc, ◌<◌, ◌≤◌, ◌⊎◌, inl, inr, Bool, true, false, cond, List, [], ◌∷◌, ◌++◌, length, refl, ap, sym, ◌∙◌, subst, arith, append_assoc, append-nil, length-append}
+use Rattle.std.proofs.Common.{◌≡◌, ℕ, ◌<◌, ◌≤◌, ◌⊎◌, inl, inr, true, false, List, [], ◌∷◌, ◌++◌, length, refl, ap, sym, ◌∙◌, subst, arith, append_assoc}
 use Rattle.std.specs.Prelude.{◌==◌}
-use Rattle.std.proofs.lemmas.Bool.{eqb-true, eq-eqb}
+use Rattle.std.proofs.lemmas.Bool.{eq-eqb}
 use Rattle.base_text.specs.declared.text.TheConstants.{TEXT_LIMIT}
 use Rattle.dom_semantics.specs.Whitespace.{is_white_space}
 use Rattle.page_text.specs.declared.faults.PageKind.{PageKind}
@@ -9,15 +9,15 @@ use Rattle.page_text.specs.declared.faults.PageKind.TheVariants.{TooLong, Unclos
 use Rattle.page_text.specs.Bytes.{Bytes, is_letter, is_name_byte, is_attribute_byte, begins, lowered}
 use Rattle.page_text.specs.PageSpelling.{AreAll, Run, Space, is_other, is_quote, is_unquoted, IsRead}
 use Rattle.page_text.specs.ValuesModel.{read_value}
-use Rattle.page_text.specs.PageTags.{ReadAttribute, StartTag, IsEquals, IsValue, quoted, unquoted, IsAttribute, valued, AreAttributes, no_more, one_more, EndsTag, closed, slashed, IsStartTag, start_tag, AreShort}
-use Rattle.page_text.specs.PageFaults.{GoesOn, BreaksAt, IsAnyStartTag, LongInTag, long_name, long_in_attribute, LongInAttribute, long_attribute, long_value, IsFirstLong, HasNoneLong}
+use Rattle.page_text.specs.PageTags.{ReadAttribute, StartTag, IsValue, quoted, unquoted, IsAttribute, valued, AreAttributes, no_more, one_more, EndsTag, closed, slashed, IsStartTag, start_tag, AreShort}
+use Rattle.page_text.specs.PageFaults.{GoesOn, BreaksAt, IsAnyStartTag, LongInTag, long_name, long_in_attribute, long_attribute, long_value, IsFirstLong, HasNoneLong}
 use Rattle.page_text.specs.PageFaults.{StartTagFault, too_long, breaks_off, ends_inside}
-use Rattle.page_text.proofs.PageParts.{not_both, same_head, same_tail, run_same, run_once}
+use Rattle.page_text.proofs.PageParts.{not_both, same_head, same_tail, run_same}
 use Rattle.page_text.proofs.PageTagParts.{attribute_once}
 use Rattle.page_text.proofs.PageTagsOnce.{end_no_more}
 use Rattle.page_text.proofs.PageValues.{value_here}
 use Rattle.page_text.proofs.PageMoved.{begins_front, run_of, attribute_byte_in, no_space_first, attribute_moved, Keeps, keeps_gap, keeps_close, keeps_at, quote_no_space, MovedAttributes, attributes_moved, equals_moved}
-use Rattle.page_text.proofs.PageLong.{LongBehind, behind_shorter, long_place, behind_short}
+use Rattle.page_text.proofs.PageLong.{LongBehind, behind_short}
 use Rattle.page_text.proofs.PageStuck.{Named, Stuck, at_end, behind_slash, bad, bad_slash, wide_name, no_value, no_quote, closed_early, wide_value, NoSooner, long_behind, close_there, value_then}
 
 -- ---- a start tag up to where its attributes go on no more

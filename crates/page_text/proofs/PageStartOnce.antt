@@ -1,16 +1,15 @@
 -- What is a start tag with no part that is too long has no fault, and what is none has one.
-use Rattle.std.proofs.Common.{◌≡◌, ℕ, suc, ◌<◌, ◌≤◌, Bool, true, false, List, [], ◌∷◌, ◌++◌, length, refl, ap, sym, ◌∙◌, subst, arith, append_assoc, length-append}
-use Rattle.base_text.specs.declared.text.TheConstants.{TEXT_LIMIT}
+use Rattle.std.proofs.Common.{◌≡◌, ◌<◌, true, List, [], ◌∷◌, ◌++◌, length, refl, ap, sym, ◌∙◌, subst, arith, append_assoc, length-append}
 use Rattle.dom_semantics.specs.Whitespace.{is_white_space}
 use Rattle.page_text.specs.declared.faults.PageKind.{PageKind}
 use Rattle.page_text.specs.Bytes.{Bytes, is_letter, is_name_byte, is_attribute_byte, begins, lowered}
-use Rattle.page_text.specs.PageSpelling.{AreAll, Run, Space}
-use Rattle.page_text.specs.PageTags.{ReadAttribute, StartTag, IsValue, quoted, unquoted, IsAttribute, AreAttributes, no_more, one_more, EndsTag, closed, slashed, IsStartTag, start_tag, IsShort}
+use Rattle.page_text.specs.PageSpelling.{AreAll, Space}
+use Rattle.page_text.specs.PageTags.{ReadAttribute, StartTag, IsValue, quoted, unquoted, AreAttributes, no_more, one_more, EndsTag, closed, slashed, IsStartTag, start_tag, IsShort}
 use Rattle.page_text.specs.PageFaults.{IsAnyStartTag, LongInAttribute, long_attribute, long_value, LongInTag, long_name, long_in_attribute, StartTagFault, too_long, breaks_off, ends_inside}
 use Rattle.page_text.proofs.PageParts.{not_both, same_tail, run_same}
 use Rattle.page_text.proofs.PageTagsOnce.{start_tag_once, end_no_more}
 use Rattle.page_text.proofs.PageBreaks.{breaks_once, no_break_inside, Begins, no_part_inside, no_part_break, Lies, alike, longer, shorter, lies}
-use Rattle.page_text.proofs.PageMoved.{run_of, Keeps, keeps_at, attributes_moved, attribute_moved, equals_moved}
+use Rattle.page_text.proofs.PageMoved.{run_of, Keeps, keeps_at, attributes_moved, equals_moved}
 use Rattle.page_text.proofs.PageLong.{LongBehind, behind_short, lowered_length}
 use Rattle.page_text.proofs.PageStartFaults.{letter_on, name_kept}
 

@@ -1,10 +1,10 @@
 -- The model answers each start tag, and what has a fault by the grammar it refuses by this fault.
-use Rattle.std.proofs.Common.{◌≡◌, ℕ, suc, zero, ◌<◌, ◌≤◌, Bool, true, false, List, [], ◌∷◌, ◌++◌, Option, Some, None, Ok, Err, length, drop, refl, ap, sym, ◌∙◌, subst, arith, length-append}
+use Rattle.std.proofs.Common.{◌≡◌, ℕ, suc, zero, ◌<◌, ◌≤◌, List, [], Option, Some, None, Ok, Err, length, drop, refl, ap, subst, arith, length-append}
 use Rattle.page_text.specs.declared.faults.PageKind.{PageKind}
 use Rattle.page_text.specs.declared.scan.Stop.TheVariants.{AfterSpace}
 use Rattle.page_text.specs.declared.tags.Attribute.{Attribute}
 use Rattle.page_text.specs.Bytes.{Bytes, lowered}
-use Rattle.page_text.specs.ScansModel.{before, from, stops}
+use Rattle.page_text.specs.ScansModel.{before, stops}
 use Rattle.page_text.specs.Outcomes.{Outcome, checked}
 use Rattle.page_text.specs.TagsModel as t
 use Rattle.page_text.specs.TagsModel.{Attributes, Tag, after_space, with_attribute, tagged}

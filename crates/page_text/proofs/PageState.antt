@@ -1,5 +1,5 @@
 -- A state of the model at a place of a page.
-use Rattle.std.proofs.Common.{◌≡◌, ℕ, suc, ◌+◌, ◌-◌, ◌<◌, ◌≤◌, Bool, true, false, cond, nat_le, List, [], ◌∷◌, ◌++◌, Option, Some, None, Ok, Err, length, take, map, refl, ap, sym, ◌∙◌, arith, length-append}
+use Rattle.std.proofs.Common.{◌≡◌, ℕ, suc, ◌+◌, ◌-◌, Bool, true, false, cond, nat_le, List, [], ◌∷◌, ◌++◌, Option, Some, None, Ok, Err, length, take, map, refl, ap, sym, ◌∙◌, arith, length-append}
 use Rattle.std.specs.Prelude.{◌==◌, slice_get}
 use Rattle.std.proofs.Math.Seq.{take-append_seam}
 use Rattle.std.proofs.lemmas.Bool.Decides.{nat_tests}
@@ -13,7 +13,7 @@ use Rattle.page_text.specs.Outcomes.{Outcome}
 use Rattle.page_text.specs.Nodes.{the_document}
 pub use Rattle.page_text.specs.PageReading.{open_as, listed, IsState}
 use Rattle.page_text.specs.StepsModel.{Open, State, Stepped, Next, Script, End, innermost, outer, parent_of, room_at}
-use Rattle.page_text.specs.PageNodes.{Nodes, count, Made, Build, cut, made_of, pieces_of}
+use Rattle.page_text.specs.PageNodes.{Nodes, count, Build, cut, made_of, pieces_of}
 use Rattle.page_text.specs.PageGrammar.{HasRoom, IsDocument}
 use Rattle.page_text.specs.PageOpen.{Opening, IsOpenAt, is_top}
 use Rattle.page_text.specs.PageFaults.{HasNoRoom, too_many, too_deep}

@@ -1,6 +1,6 @@
 -- A step of the model keeps its place in the page, whatever stands at the front.
-use Rattle.std.proofs.Common.{◌≡◌, ℕ, suc, Bool, true, false, cond, not, List, [], ◌∷◌, Option, Some, None, Ok, Err, length, drop, refl, ap, sym, ◌∙◌, subst}
-use Rattle.std.specs.Prelude.{◌&&◌, ◌==◌}
+use Rattle.std.proofs.Common.{◌≡◌, suc, Bool, true, false, cond, not, List, [], ◌∷◌, Option, Some, None, Ok, Err, refl, ap, sym, ◌∙◌, subst}
+use Rattle.std.specs.Prelude.{◌&&◌}
 use Rattle.dom_semantics.specs.Whitespace.{is_white_space}
 use Rattle.page_text.specs.declared.pieces.Piece.{Piece}
 use Rattle.page_text.specs.declared.scan.Raw.{Raw}
@@ -14,7 +14,7 @@ use Rattle.page_text.specs.StepsModel.{Open, State, Stepped, Next, Front, front_
 use Rattle.page_text.specs.StepsModel.{ElementStep, no_room, no_tag, element, StepsAt, over_end, over_text, over_comment, over_doctype, over_end_tag, over_bad, over_second, over_element, Steps}
 use Rattle.page_text.specs.PageNodes.{Nodes}
 use Rattle.page_text.specs.PageGrammar.{IsTop}
-use Rattle.page_text.specs.PageOpen.{Opening, opening, IsOpenAt, at_top, in_element, is_top, may_begin, may_declare}
+use Rattle.page_text.specs.PageOpen.{Opening, opening, IsOpenAt, at_top, in_element, is_top, may_begin}
 use Rattle.page_text.specs.PageNodes.{count}
 use Rattle.page_text.proofs.PageParts.{not_both}
 use Rattle.page_text.proofs.PageFronts.{nothing_at, comment_at, doctype_at, start_at, end_found}

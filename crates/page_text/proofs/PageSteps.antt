@@ -1,13 +1,11 @@
 -- A step of the model over text, a comment, a doctype, a void element or an end tag keeps its place in the page.
-use Rattle.std.proofs.Common.{◌≡◌, ℕ, suc, ◌+◌, ◌<◌, Bool, true, false, cond, not, List, [], ◌∷◌, ◌++◌, Option, Some, None, Ok, Err, length, drop, map, refl, ap, sym, ◌∙◌, subst, arith, append-nil, length-append, codes}
-use Rattle.std.specs.Prelude.{◌&&◌, ◌==◌}
+use Rattle.std.proofs.Common.{◌≡◌, ℕ, suc, ◌+◌, ◌<◌, Bool, true, false, cond, List, [], ◌∷◌, ◌++◌, Ok, Err, length, drop, map, refl, ap, sym, ◌∙◌, subst, arith, append-nil, length-append, codes}
+use Rattle.std.specs.Prelude.{◌&&◌}
 use Rattle.std.specs.Str.{chars, bytes_eq}
-use Rattle.std.proofs.lemmas.Bool.{and_parts}
 use Rattle.std.proofs.lemmas.Slice.Eq.{bytes_eq-Decides}
 use Rattle.dom_semantics.specs.Whitespace.{is_white_space}
 use Rattle.door.specs.declared.requests.Request.{Request}
 use Rattle.door.specs.declared.values.Thing.{Thing}
-use Rattle.page_text.specs.declared.faults.PageKind.{PageKind}
 use Rattle.page_text.specs.declared.faults.PageKind.TheVariants.{WrongEnd}
 use Rattle.page_text.specs.declared.pieces.Piece.{Piece}
 use Rattle.page_text.specs.declared.scan.Stop.TheVariants.{AfterSpace, AtMarkup}
@@ -15,7 +13,7 @@ use Rattle.page_text.specs.Bytes.{Bytes, begins, is_letter}
 use Rattle.page_text.specs.ScansModel.{before, from, stops}
 use Rattle.page_text.specs.ValuesModel.{read_value, spells}
 use Rattle.page_text.specs.Outcomes.{Outcome, ◌>>=◌, checked}
-use Rattle.page_text.specs.Nodes.{the_document, text_writes, comment_writes}
+use Rattle.page_text.specs.Nodes.{text_writes, comment_writes}
 use Rattle.page_text.specs.TagsModel.{after_space, comment_at, doctype_at, end_tag_at}
 use Rattle.page_text.specs.StepsModel as m
 use Rattle.page_text.specs.StepsModel.{Open, State, innermost, outer, parent_of, parent, room, front_of}
@@ -23,7 +21,7 @@ use Rattle.page_text.specs.declared.tags.Attribute.{Attribute}
 use Rattle.page_text.specs.PageSpelling.{Space}
 use Rattle.page_text.specs.PageTags.{begins_doctype, IsEndTag, IsDoctype}
 use Rattle.page_text.specs.PageNodes.{Nodes, NoNodes, Element, Text, Comment, count, joined, Made, Build, made_of}
-use Rattle.page_text.specs.PageGrammar.{IsNodes, no_more, text_run, comment, IsTop, top_end, white_space, top_comment, top_doctype, top_element}
+use Rattle.page_text.specs.PageGrammar.{IsNodes, no_more, text_run, comment, top_end, white_space, top_comment, top_doctype, top_element}
 use Rattle.page_text.specs.PageOpen.{Opening, opening, begun, IsInside, IsOpenAt, at_top, in_element, is_top, may_begin, may_declare}
 use Rattle.page_text.proofs.Reading.{text_taken}
 use Rattle.page_text.proofs.PageParts.{not_both}
@@ -34,7 +32,7 @@ use Rattle.page_text.proofs.PageTagLists.{gap_some}
 use Rattle.page_text.proofs.PageTagsWhole.{comment_ok, doctype_ok, end_ok}
 use Rattle.page_text.proofs.PageGrown.{parent_in, inside_length}
 use Rattle.page_text.proofs.PageOpened.{GrownAt, grow_at_top, grow_at, close_at}
-use Rattle.page_text.proofs.PageState.{listed, innermost_listed, outer_listed, IsState, state_grown, state_moved, depth_is, top_is, parent_is, room_there}
+use Rattle.page_text.proofs.PageState.{listed, innermost_listed, outer_listed, IsState, state_grown, state_moved, parent_is, room_there}
 
 -- what the nodes make, said otherwise
 pub grown_as : (text : Bytes) (h : Bool) (nodes : Nodes) (added : ℕ) (makes others : List Made) (open_then : List Opening) (rest : Bytes) → makes ≡ others

@@ -1,16 +1,15 @@
 -- Where the attributes of a start tag go on no more: what is too long there, or why nothing is.
-use Rattle.std.proofs.Common.{◌≡◌, ℕ, suc, ◌<◌, ◌≤◌, ◌⊎◌, inl, inr, Bool, true, false, List, [], ◌∷◌, ◌++◌, length, refl, ap, sym, ◌∙◌, subst, arith, length-append}
+use Rattle.std.proofs.Common.{◌≡◌, ℕ, ◌<◌, ◌≤◌, ◌⊎◌, inl, inr, Bool, true, false, List, [], ◌∷◌, ◌++◌, length, refl, ap, sym, ◌∙◌, subst, arith}
 use Rattle.std.specs.Prelude.{◌==◌}
-use Rattle.std.proofs.lemmas.Bool.{eq-eqb}
 use Rattle.base_text.specs.declared.text.TheConstants.{TEXT_LIMIT}
 use Rattle.dom_semantics.specs.Whitespace.{is_white_space}
 use Rattle.page_text.specs.declared.faults.PageKind.{PageKind}
 use Rattle.page_text.specs.declared.faults.PageKind.TheVariants.{TooLong, Unclosed, BadTag}
-use Rattle.page_text.specs.Bytes.{Bytes, is_attribute_byte, begins, sees}
+use Rattle.page_text.specs.Bytes.{Bytes, is_attribute_byte, begins}
 use Rattle.page_text.specs.PageSpelling.{AreAll, Run, Space, is_other, is_quote, is_unquoted, IsRead}
-use Rattle.page_text.specs.PageTags.{ReadAttribute, IsEquals, IsValue, quoted, unquoted, IsAttribute, bare, valued, AreAttributes, no_more, one_more, EndsTag, closed, slashed}
+use Rattle.page_text.specs.PageTags.{ReadAttribute, IsEquals, IsValue, quoted, unquoted, IsAttribute, bare, valued, AreAttributes, no_more, one_more}
 use Rattle.page_text.specs.PageFaults.{LongInAttribute, long_attribute, long_value}
-use Rattle.page_text.proofs.PageParts.{not_both, same_head, same_tail, run_same, one_run}
+use Rattle.page_text.proofs.PageParts.{not_both, same_head, same_tail, run_same}
 use Rattle.page_text.proofs.PageTagParts.{equals_once, value_once, not_valued, not_other}
 use Rattle.page_text.proofs.PageMoved.{attribute_moved, attributes_moved}
 use Rattle.page_text.proofs.PageLong.{LongBehind, behind_shorter, long_place, value_behind}

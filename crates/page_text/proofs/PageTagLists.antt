@@ -1,22 +1,19 @@
 -- What the model reads of all attributes of a tag, of tags, comments and doctypes is spelled so, and what is spelled so is read.
-use Rattle.std.proofs.Common.{◌≡◌, ℕ, suc, zero, ◌<◌, ◌≤◌, Bool, true, false, cond, not, List, [], ◌∷◌, ◌++◌, Option, Some, None, Ok, Err, length, drop, map, refl, ap, sym, ◌∙◌, subst, arith, codes, append_assoc, append-nil}
-use Rattle.std.specs.Prelude.{◌&&◌, ◌||◌, ◌==◌}
-use Rattle.std.specs.List.{filter, list_any}
-use Rattle.std.specs.Str.{chars, bytes_eq}
+use Rattle.std.proofs.Common.{◌≡◌, ℕ, ◌<◌, ◌≤◌, Bool, true, false, cond, List, [], ◌∷◌, ◌++◌, Option, Some, None, Ok, Err, length, drop, map, refl, ap, sym, ◌∙◌, subst, arith}
+use Rattle.std.specs.Prelude.{◌&&◌, ◌==◌}
 use Rattle.std.proofs.lemmas.Bool.{and_parts, eqb-true}
 use Rattle.base_text.specs.declared.text.TheConstants.{TEXT_LIMIT}
 use Rattle.dom_semantics.specs.Whitespace.{is_white_space}
-use Rattle.page_text.specs.declared.faults.PageKind.{PageKind}
 use Rattle.page_text.specs.declared.faults.PageKind.TheVariants.{Unclosed, BadTag}
 use Rattle.page_text.specs.declared.scan.Stop.TheVariants.{AfterSpace}
 use Rattle.page_text.specs.declared.tags.Attribute.{Attribute}
 use Rattle.page_text.specs.Bytes.{Bytes, is_attribute_byte, begins, sees}
-use Rattle.page_text.specs.ScansModel.{before, from, stops}
+use Rattle.page_text.specs.ScansModel.{before, stops}
 use Rattle.page_text.specs.Outcomes.{Outcome, ◌>>=◌}
 use Rattle.page_text.specs.TagsModel as t
 use Rattle.page_text.specs.TagsModel.{Attributes, after_space, is_empty, with_attribute}
-use Rattle.page_text.specs.PageSpelling.{AreAll, Run, Space}
-use Rattle.page_text.specs.PageTags.{ReadAttribute, IsAttribute, bare, valued, AreAttributes, no_more, one_more, EndsTag, closed, slashed, AreShort, attribute_of, first_of_each}
+use Rattle.page_text.specs.PageSpelling.{AreAll, Space}
+use Rattle.page_text.specs.PageTags.{ReadAttribute, IsAttribute, bare, valued, AreAttributes, no_more, one_more, EndsTag, closed, slashed, AreShort, attribute_of}
 use Rattle.page_text.proofs.PageParts.{run_once, not_both}
 use Rattle.page_text.proofs.PageScans.{space_here}
 use Rattle.page_text.proofs.PageTagsRead.{bind_ok, err_ok, pair_same, sees_cons, IsReadAs, attribute_ok, attribute_again}

@@ -1,14 +1,12 @@
 -- A tag, a comment and a doctype at the front of a text are read in one way.
-use Rattle.std.proofs.Common.{◌≡◌, ℕ, ◌<◌, Bool, true, false, not, List, [], ◌∷◌, ◌++◌, length, refl, ap, sym, ◌∙◌, arith, codes}
+use Rattle.std.proofs.Common.{◌≡◌, ℕ, Bool, true, false, not, [], ◌∷◌, ◌++◌, refl, ap, sym, ◌∙◌}
 use Rattle.std.specs.Prelude.{◌==◌}
 use Rattle.std.proofs.lemmas.Bool.{eq-eqb}
 use Rattle.dom_semantics.specs.Whitespace.{is_white_space}
-use Rattle.page_text.specs.Bytes.{Bytes, is_name_byte, is_attribute_byte, begins, sees, lowered}
-use Rattle.page_text.specs.PageSpelling.{AreAll, Run, Space, UpTo, is_other, is_quote, is_unquoted, IsRead}
-use Rattle.page_text.specs.PageTags.{ReadAttribute, StartTag, IsEquals, equals, IsValue, quoted, unquoted, IsAttribute, bare, valued}
-use Rattle.page_text.specs.PageTags.{AreAttributes, no_more, one_more, EndsTag, closed, slashed, IsStartTag, start_tag, IsEndTag, end_tag}
-use Rattle.page_text.specs.PageTags.{IsComment, comment, begins_comment_end, IsDoctype, doctype}
-use Rattle.page_text.proofs.PageParts.{not_both, same_head, same_tail, one_run, run_same, front_same}
+use Rattle.page_text.specs.Bytes.{Bytes, is_attribute_byte, begins, sees, lowered}
+use Rattle.page_text.specs.PageSpelling.{AreAll, Space, is_other, is_quote, is_unquoted}
+use Rattle.page_text.specs.PageTags.{ReadAttribute, IsEquals, equals, IsValue, quoted, unquoted, IsAttribute, bare, valued}
+use Rattle.page_text.proofs.PageParts.{not_both, same_head, same_tail, one_run, run_same}
 use Rattle.page_text.proofs.PageValues.{read_once}
 
 other_first : (q : ℕ → Bool) (b : ℕ) (bs text : Bytes) → text ≡ b ∷ bs → q b ≡ true → begins q text ≡ false → ⊥

@@ -1,6 +1,6 @@
 -- What the model refuses as a start tag is none by the page grammar, by the fault that it tells.
-use Rattle.std.proofs.Common.{◌≡◌, ℕ, suc, ◌<◌, ◌≤◌, ◌⊎◌, inl, inr, Bool, true, false, cond, List, [], ◌∷◌, ◌++◌, Option, Some, None, Ok, Err, length, drop, map, refl, ap, sym, ◌∙◌, subst, arith, append-nil, length-append}
-use Rattle.std.specs.Prelude.{◌&&◌, ◌==◌}
+use Rattle.std.proofs.Common.{◌≡◌, ℕ, ◌<◌, ◌≤◌, ◌⊎◌, inl, inr, Bool, true, false, cond, List, [], ◌∷◌, ◌++◌, Option, Some, None, Ok, Err, length, drop, refl, ap, sym, ◌∙◌, subst, arith, append-nil}
+use Rattle.std.specs.Prelude.{◌&&◌}
 use Rattle.std.specs.Str.{chars}
 use Rattle.std.proofs.Common.{ltb}
 use Rattle.std.proofs.lemmas.Bool.{ltb-true, and_parts}
@@ -8,18 +8,18 @@ use Rattle.base_text.specs.declared.text.TheConstants.{TEXT_LIMIT}
 use Rattle.dom_semantics.specs.Whitespace.{is_white_space}
 use Rattle.page_text.specs.declared.faults.PageKind.{PageKind}
 use Rattle.page_text.specs.declared.faults.PageKind.TheVariants.{TooLong, Unclosed, BadTag}
-use Rattle.page_text.specs.declared.scan.Stop.TheVariants.{AfterSpace, AfterName, AfterAttribute, AfterUnquoted, AtByte}
+use Rattle.page_text.specs.declared.scan.Stop.TheVariants.{AfterSpace, AfterAttribute, AfterUnquoted, AtByte}
 use Rattle.page_text.specs.declared.tags.Attribute.{Attribute}
-use Rattle.page_text.specs.Bytes.{Bytes, is_letter, is_name_byte, is_attribute_byte, begins, sees, lowered}
+use Rattle.page_text.specs.Bytes.{Bytes, is_letter, is_attribute_byte, begins, sees, lowered}
 use Rattle.page_text.specs.ScansModel.{before, from, stops}
 use Rattle.page_text.specs.ValuesModel.{read_value}
 use Rattle.page_text.specs.Outcomes.{Outcome, ◌>>=◌, checked}
 use Rattle.page_text.specs.TagsModel as t
 use Rattle.page_text.specs.TagsModel.{Attributes, Tag, is_empty, after_space, with_attribute, tagged}
-use Rattle.page_text.specs.PageSpelling.{AreAll, Run, Space, is_other, is_quote, IsRead}
-use Rattle.page_text.specs.PageTags.{ReadAttribute, IsValue, quoted, unquoted, AreAttributes, no_more, one_more, AreShort}
-use Rattle.page_text.specs.PageFaults.{LongInTag, long_name, long_in_attribute, LongInAttribute, IsFirstLong, StartTagFault, too_long}
-use Rattle.page_text.proofs.PageParts.{not_both, same_tail, run_same}
+use Rattle.page_text.specs.PageSpelling.{AreAll, Run, Space, is_other, is_quote}
+use Rattle.page_text.specs.PageTags.{ReadAttribute, quoted, unquoted, AreAttributes, no_more, one_more, AreShort}
+use Rattle.page_text.specs.PageFaults.{LongInTag, long_name, long_in_attribute, StartTagFault, too_long}
+use Rattle.page_text.proofs.PageParts.{not_both, same_tail}
 use Rattle.page_text.proofs.PageValues.{value_here}
 use Rattle.page_text.proofs.PageScans.{space_here, name_here, attribute_here, unquoted_here, others_here}
 use Rattle.page_text.proofs.PageTagsRead.{err_ok, err_same, checked_ok, sees_cons, unquoted_some, no_quote as no_quote_first, name_some, equals_here}
@@ -28,7 +28,7 @@ use Rattle.page_text.proofs.PageTagsWhole.{BeginsStart}
 use Rattle.page_text.proofs.PageMoved.{attributes_moved}
 use Rattle.page_text.proofs.PageLong.{behind_shorter, long_place, lowered_length}
 use Rattle.page_text.proofs.PageStuck.{Named, Stuck, at_end, behind_slash, bad, bad_slash, wide_name, no_value, no_quote, closed_early, wide_value}
-use Rattle.page_text.proofs.PageStartFaults.{StuckTag, stuck_fault}
+use Rattle.page_text.proofs.PageStartFaults.{stuck_fault}
 
 -- ---- answers
 

@@ -1,8 +1,8 @@
 -- Tags, comments and doctypes at the front of a text are read in one way.
-use Rattle.std.proofs.Common.{◌≡◌, ℕ, ◌<◌, Bool, true, false, List, [], ◌∷◌, ◌++◌, length, refl, ap, sym, ◌∙◌, arith, codes}
+use Rattle.std.proofs.Common.{◌≡◌, ℕ, ◌<◌, false, List, [], ◌∷◌, ◌++◌, length, refl, ap, sym, ◌∙◌, arith, codes}
 use Rattle.dom_semantics.specs.Whitespace.{is_white_space}
 use Rattle.page_text.specs.Bytes.{Bytes, is_name_byte, is_attribute_byte, lowered}
-use Rattle.page_text.specs.PageSpelling.{AreAll, Run, Space, UpTo, is_other, IsRead}
+use Rattle.page_text.specs.PageSpelling.{Run, Space}
 use Rattle.page_text.specs.PageTags.{ReadAttribute, StartTag, IsAttribute, bare, valued, AreAttributes, no_more, one_more, EndsTag, closed, slashed}
 use Rattle.page_text.specs.PageTags.{IsStartTag, start_tag, IsEndTag, end_tag, IsComment, comment, begins_comment_end, IsDoctype, doctype}
 use Rattle.page_text.proofs.PageParts.{not_both, same_head, same_tail, run_same, front_same}

@@ -1,16 +1,16 @@
 -- What the model reads of tags is spelled so, and what is spelled so is read.
-use Rattle.std.proofs.Common.{◌≡◌, ℕ, suc, ◌<◌, ◌≤◌, ◌⊎◌, inl, inr, Bool, true, false, cond, not, List, [], ◌∷◌, ◌++◌, Option, Some, None, Result, Ok, Err, length, drop, map, refl, ap, sym, ◌∙◌, subst, arith}
-use Rattle.std.specs.Prelude.{◌&&◌, ◌||◌, ◌==◌}
+use Rattle.std.proofs.Common.{◌≡◌, ℕ, ◌<◌, ◌≤◌, ◌⊎◌, inl, inr, Bool, true, false, cond, not, List, [], ◌∷◌, ◌++◌, Result, Ok, Err, length, drop, refl, ap, sym, ◌∙◌, subst, arith}
+use Rattle.std.specs.Prelude.{◌||◌, ◌==◌}
 use Rattle.std.proofs.Common.{ltb}
-use Rattle.std.proofs.lemmas.Bool.{le-ltb, ltb-false, eqb-true, eq-eqb, and_parts, or_parts}
+use Rattle.std.proofs.lemmas.Bool.{le-ltb, ltb-false, eqb-true, eq-eqb, or_parts}
 use Rattle.std.specs.Str.{chars}
 use Rattle.base_text.specs.declared.text.TheConstants.{TEXT_LIMIT}
 use Rattle.dom_semantics.specs.Whitespace.{is_white_space}
 use Rattle.page_text.specs.declared.faults.PageKind.{PageKind}
 use Rattle.page_text.specs.declared.faults.PageKind.TheVariants.{TooLong, Unclosed, BadTag}
-use Rattle.page_text.specs.declared.scan.Stop.TheVariants.{AfterSpace, AfterName, AfterAttribute, AfterUnquoted, AtByte}
+use Rattle.page_text.specs.declared.scan.Stop.TheVariants.{AfterSpace, AfterAttribute, AfterUnquoted, AtByte}
 use Rattle.page_text.specs.declared.tags.Attribute.{Attribute}
-use Rattle.page_text.specs.Bytes.{Bytes, is_letter, is_attribute_byte, begins, sees, lowered}
+use Rattle.page_text.specs.Bytes.{Bytes, is_attribute_byte, begins, sees, lowered}
 use Rattle.page_text.specs.ScansModel.{before, from, stops}
 use Rattle.page_text.specs.ValuesModel.{read_value}
 use Rattle.page_text.specs.Outcomes.{Outcome, ◌>>=◌, checked}
@@ -18,7 +18,7 @@ use Rattle.page_text.specs.TagsModel as t
 use Rattle.page_text.specs.TagsModel.{is_empty, after_space}
 use Rattle.page_text.specs.PageSpelling.{AreAll, Run, Space, is_other, is_quote, is_unquoted, IsRead}
 use Rattle.page_text.specs.PageTags.{ReadAttribute, IsEquals, equals, IsValue, quoted, unquoted, IsAttribute, bare, valued, attribute_of}
-use Rattle.page_text.proofs.PageParts.{run_once, not_both}
+use Rattle.page_text.proofs.PageParts.{run_once}
 use Rattle.page_text.proofs.PageValues.{value_here, value_is}
 use Rattle.page_text.proofs.PageScans.{space_here, attribute_here, unquoted_here, others_here}
 

@@ -1,13 +1,11 @@
 -- What the model reads of whole tags, of comments and doctypes is spelled so, and what is spelled so is read.
-use Rattle.std.proofs.Common.{◌≡◌, ℕ, ◌<◌, ◌≤◌, Bool, true, false, cond, List, [], ◌∷◌, ◌++◌, Ok, Err, length, drop, map, refl, ap, sym, ◌∙◌, subst, codes}
-use Rattle.std.specs.Prelude.{◌&&◌}
+use Rattle.std.proofs.Common.{◌≡◌, ℕ, ◌≤◌, Bool, true, false, cond, List, [], ◌∷◌, ◌++◌, Ok, Err, length, drop, map, refl, ap, sym, ◌∙◌, subst}
 use Rattle.std.specs.Str.{chars}
-use Rattle.std.proofs.lemmas.Bool.{and_parts}
 use Rattle.base_text.specs.declared.text.TheConstants.{TEXT_LIMIT}
 use Rattle.dom_semantics.specs.Whitespace.{is_white_space}
 use Rattle.page_text.specs.declared.faults.PageKind.{PageKind}
 use Rattle.page_text.specs.declared.faults.PageKind.TheVariants.{Unclosed, BadTag}
-use Rattle.page_text.specs.declared.scan.Stop.TheVariants.{AfterSpace, AfterName, AtByte, AtCommentEnd}
+use Rattle.page_text.specs.declared.scan.Stop.TheVariants.{AfterSpace, AtByte, AtCommentEnd}
 use Rattle.page_text.specs.declared.tags.Attribute.{Attribute}
 use Rattle.page_text.specs.Bytes.{Bytes, is_letter, is_name_byte, begins, sees, lowered}
 use Rattle.page_text.specs.ScansModel.{before, from, stops}
@@ -15,15 +13,14 @@ use Rattle.page_text.specs.ValuesModel.{spells, with_line_ends}
 use Rattle.page_text.specs.Outcomes.{Outcome, ◌>>=◌, checked}
 use Rattle.page_text.specs.TagsModel as t
 use Rattle.page_text.specs.TagsModel.{Attributes, Tag, after_space, is_empty, tagged}
-use Rattle.page_text.specs.PageSpelling.{AreAll, Run, Space, UpTo, is_other, IsRead, as_it_stands}
-use Rattle.page_text.specs.PageTags as tags
+use Rattle.page_text.specs.PageSpelling.{Space, is_other, as_it_stands}
 use Rattle.page_text.specs.PageTags.{StartTag, IsStartTag, start_tag, IsEndTag, end_tag, IsComment, comment, begins_comment_end, begins_doctype, IsDoctype, doctype, IsShort, attribute_of, tag_of, attributes_of}
 use Rattle.page_text.proofs.Reading.{spelled_front}
 use Rattle.page_text.proofs.PageParts.{run_once, front_once}
 use Rattle.page_text.proofs.PageValues.{line_ends_here, line_ends_are}
 use Rattle.page_text.proofs.PageScans.{name_here, space_here, others_here, comment_end_here}
-use Rattle.page_text.proofs.PageTagsRead.{bind_ok, err_ok, ok_same, pair_same, checked_ok, checked_again, sees_cons, sees_here, not_other}
-use Rattle.page_text.proofs.PageTagLists.{AreReadAs, counted, attributes_ok, attributes_again}
+use Rattle.page_text.proofs.PageTagsRead.{bind_ok, err_ok, ok_same, pair_same, checked_ok, checked_again, sees_cons, not_other}
+use Rattle.page_text.proofs.PageTagLists.{counted, attributes_ok, attributes_again}
 use Rattle.page_text.proofs.PageCounted.{counted_first}
 
 -- ---- start tags

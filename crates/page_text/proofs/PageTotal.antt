@@ -1,6 +1,6 @@
 -- The model comes to the end of each text or to a fault of it, so bytes are a page or have a fault.
 use Rattle.std.proofs.Common.{◌≡◌, ℕ, suc, zero, ◌+◌, ◌<◌, ◌≤◌, ◌⊎◌, inl, inr, Bool, true, false, cond, List, [], ◌∷◌, ◌++◌, Option, Some, None, Ok, Err, length, drop, refl, ap, sym, ◌∙◌, subst, arith, append_assoc, length-append, codes}
-use Rattle.std.specs.Prelude.{◌&&◌, ◌==◌}
+use Rattle.std.specs.Prelude.{◌&&◌}
 use Rattle.std.specs.Str.{bytes_eq}
 use Rattle.std.proofs.Common.{ltb, append-nil}
 use Rattle.std.proofs.lemmas.Bool.{ltb-true, ltb-false}
@@ -33,12 +33,10 @@ use Rattle.page_text.specs.PageModel.{start, without_mark}
 use Rattle.page_text.specs.PageReading.{IsState}
 use Rattle.page_text.proofs.Reading.{space_taken, text_taken}
 use Rattle.page_text.proofs.Scanning.{parts_join}
-use Rattle.page_text.proofs.PageParts.{not_both}
 use Rattle.page_text.proofs.PageTagsRead.{bind_ok, err_ok, ok_same, pair_same}
 use Rattle.page_text.proofs.PageTagsWhole.{start_ok, end_ok, comment_ok, doctype_ok}
 use Rattle.page_text.proofs.PageFronts.{comment_at as comment_first, doctype_at as doctype_first, start_at, end_found}
 use Rattle.page_text.proofs.PageMoved.{attributes_moved}
-use Rattle.page_text.proofs.PageHolders.{raw_small, end_letter}
 use Rattle.page_text.proofs.PageStartOnce.{IsRestOf, rest_on, end_moved}
 use Rattle.page_text.proofs.PageStartTotal.{start_total}
 use Rattle.page_text.proofs.PageState.{piece_at, cut_off}

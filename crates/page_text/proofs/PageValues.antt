@@ -1,9 +1,9 @@
 -- What bytes are read as, by the page grammar and by the reader's model.
-use Rattle.std.proofs.Common.{◌≡◌, ℕ, suc, zero, Bool, true, false, cond, Option, Some, None, [], ◌∷◌, ◌++◌, length, drop, refl, ap, sym, ◌∙◌, codes}
-use Rattle.std.specs.Prelude.{◌&&◌, ◌||◌, ◌==◌}
+use Rattle.std.proofs.Common.{◌≡◌, ℕ, suc, zero, Bool, true, false, cond, Some, None, [], ◌∷◌, ◌++◌, length, drop, refl, ap, sym, ◌∙◌, codes}
+use Rattle.std.specs.Prelude.{◌&&◌, ◌==◌}
 use Rattle.std.proofs.lemmas.Bool.{or_parts, eqb-true}
 use Rattle.page_text.specs.Bytes.{Bytes, sees}
-use Rattle.page_text.specs.ValuesModel.{spells, with_line_ends, entity_at, read_first, unescaped_past, unescaped, read_value}
+use Rattle.page_text.specs.ValuesModel.{spells, with_line_ends, entity_at, unescaped_past, unescaped, read_value}
 use Rattle.page_text.specs.PageSpelling.{begins_with, begins_entity, LineEnds, no_line, in_line, lone_return, return_and_line_feed}
 use Rattle.page_text.proofs.Reading.{spelled_front}
 use Rattle.page_text.specs.PageSpelling.{IsEntity, amp, lt, gt, quot, apos, Entities, no_character, entity, itself, IsRead, as_it_stands, with_entities}

@@ -1,8 +1,7 @@
 -- Some pages, what they spell, and some first faults. The expected values are this project's own.
-use Rattle.std.specs.Prelude.{◌≡◌, List, [], ◌∷◌, ◌++◌, Some, None, codes}
+use Rattle.std.specs.Prelude.{[], ◌∷◌, ◌++◌, codes}
 use Rattle.page_text.specs.declared.faults.PageKind.TheVariants.{Unclosed, BadTag, WrongEnd}
-use Rattle.page_text.specs.Nodes.{the_document, thing_of, element_writes, text_writes}
-use Rattle.page_text.specs.PageNodes.{NoNodes, Element, Text, Comment, pieces_of}
+use Rattle.page_text.specs.PageNodes.{NoNodes, Element, Text, Comment}
 use Rattle.page_text.specs.PageGrammar.{IsDocument}
 use Rattle.page_text.specs.PageFaults.{IsFault}
 

@@ -4,7 +4,6 @@ use Rattle.std.specs.Str.{bytes_eq}
 use Rattle.door.specs.declared.values.Kind.TheVariants.{Element}
 use Rattle.door.specs.declared.limits.TheConstants.{DEPTH_LIMIT, NODE_LIMIT}
 use Rattle.door.specs.declared.values.Thing.{Thing}
-use Rattle.door.specs.declared.requests.Request.{Request}
 use Rattle.page_text.specs.declared.faults.PageKind.{PageKind}
 use Rattle.page_text.specs.declared.faults.PageKind.TheVariants.{TooLong, Unclosed, BadTag, WrongEnd, TooDeep}
 use Rattle.page_text.specs.declared.scan.Raw.{Raw}
