@@ -5,14 +5,15 @@ use Rattle.std.specs.declared.result.Result.TheVariants.{Ok, Err}
 use Rattle.door.specs.declared.requests.ErrorKind.{ErrorKind}
 use Rattle.door.specs.declared.requests.ErrorKind.TheVariants as kind
 use Rattle.js_semantics.specs.Machine as m
-use Rattle.js_semantics.specs.Properties.{own_of, with_elements, defined_of, removed_of}
+use Rattle.js_semantics.specs.Properties.{array_own, own_of, element_written, with_elements, defined_of, removed_of}
 use Rattle.js_semantics.specs.Names.{value_in, bound_in}
 use Rattle.js_objects.specs.declared.values.Slot.{Slot}
 use Rattle.js_objects.specs.declared.values.Prop.{Prop}
 use Rattle.js_objects.specs.declared.values.HeapFault.{HeapFault}
 use Rattle.js_objects.specs.declared.values.HeapFault.TheVariants as fault
 use Rattle.js_objects.specs.declared.cell.Cell.{Cell}
-use Rattle.js_objects.specs.Naming.{Names, value_of, values_of, property_of, bindings_of, holder_of}
+use Rattle.js_objects.specs.Naming.{Names, value_of, values_of, property_of, slots_of, bindings_of, holder_of}
+use Rattle.js_objects.specs.Elements.{element_by, length_from}
 
 -- an answer conforms to what a table gives: the cell, or which of its two refusals; only want of memory conforms to each
 abbrev pub Conforms : Result (Unit {0}) HeapFault → m.Cell → Result m.Cell ErrorKind → Type 0
@@ -27,9 +28,20 @@ Conforms (Err fault.Cycle) cell row = ⊥
 abbrev pub ElementsConform : Result (Unit {0}) HeapFault → List Slot → (Names → m.Cell → Result m.Cell ErrorKind) → Type 0
 ElementsConform result elements row = (names : Names) (cell : m.Cell) → Conforms result (with_elements cell (values_of names elements)) (row names cell)
 
+-- an element is put at a place, and a length cuts, where they are as they have to be
+abbrev pub element_row : Bool → List Slot → ℕ → Slot → Names → m.Cell → Result m.Cell ErrorKind
+element_row fits elements place value names cell = element_by fits (element_written cell (values_of names elements) place (value_of names value))
+
+abbrev pub length_row : Bool → List Slot → Slot → Names → m.Cell → Result m.Cell ErrorKind
+length_row fits elements value names cell = length_from fits cell (values_of names elements) (value_of names value)
+
 -- a property is read
 abbrev pub ReadsAs : (Names → Option m.Property) → Option Prop → Type 0
 ReadsAs row o = (names : Names) → row names ≡ option_map (property_of names) o
+
+-- .. of an array, under a key that spells a place or none
+abbrev pub ReadsInArray : Cell → List ℕ → Option ℕ → Option Prop → Type 0
+ReadsInArray x key spelled o = ReadsAs (λ names. array_own (values_of names x.elements) (slots_of names x.slots) key spelled) o
 
 -- a name of a scope is read
 abbrev pub BoundAs : Cell → List ℕ → Option Slot → Type 0

@@ -31,6 +31,10 @@ abbrev pub places_by : Option Owner → List (Option CellId)
 places_by None = []
 places_by (Some o) = o.places.items
 
+-- the place that comes next
+abbrev pub next_place : List Owner → ℕ → ℕ
+next_place os i = length (places_by (slice_get os i))
+
 -- the cell at a place, where one has it
 abbrev pub cell_by : Option (Option CellId) → Option CellId
 cell_by None = None

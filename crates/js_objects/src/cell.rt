@@ -3,10 +3,10 @@
 ghost use Rattle.std.specs.Prelude.{◌≡◌, ◌≢◌, ◌≤◌, ◌++◌, OnErr, OnOk, IfOk, None};
 ghost use Rattle.std.specs.Fmt.{decimal};
 ghost use Rattle.std.specs.Option.{option_copied};
-ghost use Rattle.js_semantics.specs.Properties.{own_of, own_keys, array_own, place_spelled, places_from, MAX_NUMBER};
+ghost use Rattle.js_semantics.specs.Properties.{own_of, own_keys, place_spelled, places_from, MAX_NUMBER};
 ghost use Rattle.js_objects.specs.declared.values.Form.TheVariants.{Array};
-ghost use Rattle.js_objects.specs.Naming.{Names, values_of, slots_of, holder_of};
-ghost use Rattle.js_objects.specs.Defines.{Defines, ReadsAs, Removes};
+ghost use Rattle.js_objects.specs.Naming.{Names, holder_of};
+ghost use Rattle.js_objects.specs.Defines.{Defines, ReadsAs, ReadsInArray, Removes};
 ghost use Rattle.js_objects.specs.SlotsModel.{enumerable_in};
 ghost use Rattle.js_objects.specs.Heaps.{fresh_cell};
 
@@ -61,7 +61,7 @@ impl Cell {
     }
 
     fn own_of_array(&self, key: &Text) -> Option<&Prop>
-        ensures { ReadsAs (λ names. array_own (values_of names self.now.elements) (slots_of names self.now.slots) key.now (place_spelled key.now)) (option_copied result) }
+        ensures { ReadsInArray self.now key.now (place_spelled key.now) (option_copied result) }
     {
         match place_of(key) {
             Some(place) => self.elements.at(place),
@@ -70,7 +70,7 @@ impl Cell {
     }
 
     fn length_or_slot(&self, key: &Text) -> Option<&Prop>
-        ensures { ReadsAs (λ names. array_own (values_of names self.now.elements) (slots_of names self.now.slots) key.now None) (option_copied result) }
+        ensures { ReadsInArray self.now key.now None (option_copied result) }
     {
         if is_length(key) {
             Some(self.elements.length())

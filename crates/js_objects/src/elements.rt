@@ -2,11 +2,12 @@
 
 ghost use Rattle.std.specs.Prelude.{◌≡◌, ◌≤◌, ◌<◌, ◌++◌, ◌∷◌, [], OnOk, OnErr, length, take, slice_get, slice_set, option_map, ◌&&◌, not};
 ghost use Rattle.std.specs.Option.{option_copied};
-ghost use Rattle.js_semantics.specs.Machine.{Primitive as AnyPrimitive};
-ghost use Rattle.js_semantics.specs.Properties.{element_defined, element_written, length_defined, length_written, MAX_NUMBER};
-ghost use Rattle.js_objects.specs.Elements.{element_prop, length_prop, element_by, length_by, length_from};
+ghost use Rattle.js_semantics.specs.Primitives.{NumberPrim};
+ghost use Rattle.js_objects.specs.declared.values.Slot.TheVariants.{Prim};
+ghost use Rattle.js_semantics.specs.Properties.{element_defined, element_written, length_defined, MAX_NUMBER};
+ghost use Rattle.js_objects.specs.Elements.{element_prop, length_prop};
 ghost use Rattle.js_objects.specs.Naming.{value_of, values_of, property_of};
-ghost use Rattle.js_objects.specs.Defines.{ElementsConform};
+ghost use Rattle.js_objects.specs.Defines.{ElementsConform, element_row, length_row};
 
 use crate::values::{HeapFault, Prop, Slot};
 use base_text::{MAX_SAFE_INTEGER, Mem, NoMemory};
@@ -115,7 +116,7 @@ impl Elements {
         enumerable: bool,
     ) -> Result<(), HeapFault>
         requires { place ≤ length self.old }
-        ensures row { ElementsConform result self.new (λ names cell. element_by (writable && enumerable) (element_written cell (values_of names self.old) place (value_of names value))) }
+        ensures row { ElementsConform result self.new (element_row (writable && enumerable) self.old place value) }
         ensures err { OnErr result (self.new ≡ self.old) }
     {
         if !writable {
@@ -128,7 +129,7 @@ impl Elements {
     }
 
     fn cut_by(&mut self, value: &Slot, writable: bool, enumerable: bool) -> Result<(), HeapFault>
-        ensures row { ElementsConform result self.new (λ names cell. length_from (writable && not enumerable) cell (values_of names self.old) (value_of names value.now)) }
+        ensures row { ElementsConform result self.new (length_row (writable && not enumerable) self.old value.now) }
         ensures err { OnErr result (self.new ≡ self.old) }
     {
         match value {
@@ -143,7 +144,7 @@ impl Elements {
         writable: bool,
         enumerable: bool,
     ) -> Result<(), HeapFault>
-        ensures row { ElementsConform result self.new (λ names cell. length_from (writable && not enumerable) cell (values_of names self.old) (AnyPrimitive prim.now)) }
+        ensures row { ElementsConform result self.new (length_row (writable && not enumerable) self.old (Prim prim.now)) }
         ensures err { OnErr result (self.new ≡ self.old) }
     {
         match prim {
@@ -167,7 +168,7 @@ impl Elements {
     }
 
     fn cut_to(&mut self, count: i64, writable: bool, enumerable: bool) -> Result<(), HeapFault>
-        ensures row { ElementsConform result self.new (λ names cell. length_by (writable && not enumerable) (length_written cell (values_of names self.old) count)) }
+        ensures row { ElementsConform result self.new (length_row (writable && not enumerable) self.old (Prim (NumberPrim count))) }
         ensures err { OnErr result (self.new ≡ self.old) }
     {
         if count < 0 {

@@ -1,16 +1,15 @@
 //! The heap: the cells of all actors by number, and the calls that read and change them.
 
 ghost use Rattle.std.specs.Prelude.{◌≡◌, ◌≢◌, ◌<◌, ◌≤◌, ◌-◌, ◌^◌, ◌↔◌, ◌++◌, ◌∷◌, [], ℕ, OnOk, OnErr, IfOk, IfErr, IfSome, IfNone, IsErrOf};
-ghost use Rattle.std.specs.Prelude.{Some, None, length, slice_get, true};
+ghost use Rattle.std.specs.Prelude.{Some, None, length, slice_get};
 ghost use Rattle.std.specs.Option.{option_copied};
 ghost use Rattle.js_semantics.specs.Properties.{own_of, own_keys};
 ghost use Rattle.js_objects.specs.declared.cell.Cell.{Cell as AnyCell};
 ghost use Rattle.js_objects.specs.declared.values.Form.TheVariants.{Array, Scope};
 ghost use Rattle.js_objects.specs.declared.values.HeapFault.TheVariants as fault;
 ghost use Rattle.js_semantics.specs.Machine.{Machine};
-ghost use Rattle.js_semantics.specs.Natives.{closes};
-ghost use Rattle.js_objects.specs.MachineChains.{HasChain};
-ghost use Rattle.js_objects.specs.Naming.{Names, holder_of, reference_of, MayHavePlace};
+ghost use Rattle.js_objects.specs.MachineChains.{ClosesIn, HasChain};
+ghost use Rattle.js_objects.specs.Naming.{Names, holder_of, MayHavePlace};
 ghost use Rattle.js_objects.specs.Within.{IdWithin, SlotWithin, PropWithin, FormWithin};
 ghost use Rattle.js_objects.specs.Defines.{Binds, BoundAs, Defines, ReadsAs, Removes};
 ghost use Rattle.js_objects.specs.Heaps.{fresh_cell, owned, count_by, Closes, HasPlace, SameOwners, SameRest, CountsOne};
@@ -184,7 +183,7 @@ impl Heap {
         ensures ok { OnOk result (Changed self.old self.new c.0 (λ x y. y ≡ record x { proto = p })) }
         ensures err { OnErr result (self.new ≡ self.old) }
         ensures cycle { IsErrOf result HeapFault.Cycle ↔ Closes self.old.cells c.0 p }
-        ensures machine { (names : Names) (m : Machine) → HasChain names m self.old.cells c.0 p → IsErrOf result HeapFault.Cycle ↔ (closes m (names.reference c.0) (reference_of names p) ≡ true) }
+        ensures machine { (names : Names) (m : Machine) → HasChain names m self.old.cells c.0 p → IsErrOf result HeapFault.Cycle ↔ ClosesIn names m c.0 p }
         ensures only { IfErr result (λ e. e ≡ fault.Cycle) }
     {
         if self.closes(c, p) {

@@ -2,7 +2,7 @@
 
 ghost use Rattle.std.specs.Prelude.{◌≡◌, ◌≤◌, ◌<◌, ◌-◌, ◌^◌, ◌++◌, ◌∷◌, [], OnOk, OnErr, IfOk, IfSome, IfNone, Some, length, slice_get};
 ghost use Rattle.std.specs.Option.{option_copied};
-ghost use Rattle.js_objects.specs.Heaps.{SameOwners, HasMorePlaces, IsSet, Sets, SetsFor, places_by, cell_by, no_cells};
+ghost use Rattle.js_objects.specs.Heaps.{SameOwners, HasMorePlaces, IsSet, Sets, SetsFor, next_place, cell_by, no_cells};
 ghost use Rattle.js_objects.specs.StandardsModel.{standard_number, kind_number, standard_index};
 ghost use Rattle.js_objects.specs.declared.values.CellId.{CellId as AnyId};
 
@@ -62,8 +62,8 @@ pub(crate) fn add_place(
     cell: CellId,
     alloc: Global,
 ) -> Mem<u32>
-    requires { length (places_by (slice_get owners.old.items owner.0)) < 2 ^ 32 - 1 }
-    ensures next { IfOk result (λ p. p ≡ length (places_by (slice_get owners.old.items owner.0))) }
+    requires { next_place owners.old.items owner.0 < 2 ^ 32 - 1 }
+    ensures next { IfOk result (λ p. p ≡ next_place owners.old.items owner.0) }
     ensures ok { OnOk result (HasMorePlaces owner.0 (Some cell ∷ []) owners.old.items owners.new.items) }
     ensures err { OnErr result (SameOwners owners.old.items owners.new.items) }
 {
@@ -76,7 +76,7 @@ pub(crate) fn add_place(
 
 /// Leaves the places up to one without a cell.
 pub(crate) fn skip_to(owners: &mut Vec<Owner>, owner: Actor, to: u32, alloc: Global) -> Mem<()>
-    ensures ok { OnOk result (HasMorePlaces owner.0 (no_cells (to - length (places_by (slice_get owners.old.items owner.0)))) owners.old.items owners.new.items) }
+    ensures ok { OnOk result (HasMorePlaces owner.0 (no_cells (to - next_place owners.old.items owner.0)) owners.old.items owners.new.items) }
     ensures err { OnErr result (SameOwners owners.old.items owners.new.items) }
 {
     reserve(owners, owner, alloc)?;

@@ -100,28 +100,57 @@ fn add_scope(
     heap.scope_new(owner, None)
 }
 
-/// Defines a property, and answers why it can't be.
-fn define(
+/// Defines a property, which gives this fault or none.
+fn defines(
     rt: &impl Abort,
+    alloc: Global,
     heap: &mut Heap,
     c: CellId,
-    key: &Text,
+    key: &str,
     prop: Prop,
-) -> Option<HeapFault> {
+    fault: Option<HeapFault>,
+) -> Result<(), Fail> {
     assert!(rt; stands(heap, c));
     assert!(rt; is_plain(&prop));
-    heap.define(c, key, prop).err()
+    let key = Text::of(alloc, key)?;
+    let result = heap.define(c, &key, prop).err();
+    assert!(rt; result == fault);
+    Ok(())
 }
 
-fn remove(rt: &impl Abort, heap: &mut Heap, c: CellId, key: &Text) -> bool {
+fn removes(
+    rt: &impl Abort,
+    alloc: Global,
+    heap: &mut Heap,
+    c: CellId,
+    key: &str,
+    there: bool,
+) -> Result<(), Fail> {
     assert!(rt; stands(heap, c));
-    heap.remove(c, key)
+    let key = Text::of(alloc, key)?;
+    let result = heap.remove(c, &key);
+    assert!(rt; result == there);
+    Ok(())
 }
 
-/// The number that an own property holds.
-fn read(rt: &impl Abort, heap: &Heap, c: CellId, key: &Text) -> Option<i64> {
+/// An own property that holds this number, or none that holds one.
+fn reads(
+    rt: &impl Abort,
+    alloc: Global,
+    heap: &Heap,
+    c: CellId,
+    key: &str,
+    number: Option<i64>,
+) -> Result<(), Fail> {
     assert!(rt; stands(heap, c));
-    match heap.own(c, key) {
+    let key = Text::of(alloc, key)?;
+    let result = number_in(heap.own(c, &key));
+    assert!(rt; result == number);
+    Ok(())
+}
+
+fn number_in(prop: Option<&Prop>) -> Option<i64> {
+    match prop {
         Some(
             Prop::Slot {
                 value: Slot::Prim(Primitive::Number(n)),
@@ -132,32 +161,29 @@ fn read(rt: &impl Abort, heap: &Heap, c: CellId, key: &Text) -> Option<i64> {
     }
 }
 
-fn keys_are(rt: &impl Abort, heap: &Heap, c: CellId, wanted: &[&str]) -> Result<bool, Fail> {
+fn has_keys(rt: &impl Abort, heap: &Heap, c: CellId, wanted: &[&str]) -> Result<(), Fail> {
     assert!(rt; stands(heap, c));
     let keys = heap.keys(c)?;
-    if keys.len() != wanted.len() {
-        return Ok(false);
-    }
+    assert!(rt; keys.len() == wanted.len());
     for (at, key) in keys.iter().enumerate() {
-        if at >= wanted.len() || key.as_str() != wanted[at] {
-            return Ok(false);
-        }
+        assert!(rt; at < wanted.len() && key.as_str() == wanted[at]);
     }
-    Ok(true)
+    Ok(())
 }
 
-fn set_proto(
+fn sets_proto(
     rt: &impl Abort,
     heap: &mut Heap,
     c: CellId,
     p: Option<CellId>,
-) -> Result<(), HeapFault> {
+    wanted: Result<(), HeapFault>,
+) {
     assert!(rt; stands(heap, c));
     if let Some(p) = p {
         assert!(rt; stands(heap, p));
-        return heap.set_proto(c, Some(p));
     }
-    heap.set_proto(c, None)
+    let result = heap.set_proto(c, p);
+    assert!(rt; result == wanted);
 }
 
 fn proto(rt: &impl Abort, heap: &Heap, c: CellId) -> Option<CellId> {
@@ -170,10 +196,12 @@ fn place(rt: &impl Abort, heap: &Heap, c: CellId) -> Option<u32> {
     heap.place(c)
 }
 
-fn give_place(rt: &impl Abort, heap: &mut Heap, c: CellId) -> Result<u32, Fail> {
+fn is_given(rt: &impl Abort, heap: &mut Heap, c: CellId, place: u32) -> Result<(), Fail> {
     assert!(rt; stands(heap, c));
     assert!(rt; is_placed(heap.form(c)));
-    Ok(heap.give_place(c)?)
+    let given = heap.give_place(c)?;
+    assert!(rt; given == place);
+    Ok(())
 }
 
 fn set_standard(rt: &impl Abort, heap: &mut Heap, s: Standard, c: CellId) -> Result<(), Fail> {
@@ -188,33 +216,37 @@ fn scope_set(rt: &impl Abort, heap: &mut Heap, s: CellId, name: &Text, n: i64) -
     Ok(())
 }
 
-fn scope_get<'a>(rt: &impl Abort, heap: &'a Heap, s: CellId, name: &Text) -> Option<&'a Slot> {
+/// The number that a name has in a scope.
+fn scope_get(rt: &impl Abort, heap: &Heap, s: CellId, name: &Text) -> Option<i64> {
     assert!(rt; stands(heap, s));
-    heap.scope_get(s, name)
+    match heap.scope_get(s, name) {
+        Some(Slot::Prim(Primitive::Number(n))) => Some(*n),
+        _ => None,
+    }
 }
 
 #[test]
 fn the_limit_is_each_owners_own(rt: HostRuntime) -> Result<(), Fail> {
     let alloc = rt.alloc();
     let mut heap = Heap::new(alloc, 1);
-    assert_eq!(rt; heap.room(PAGE), 1);
-    assert_eq!(rt; add(&rt, &mut heap, PAGE, Form::Plain), Ok(CellId(0)));
-    assert_eq!(rt;
-        add(&rt, &mut heap, PAGE, Form::Plain),
-        Err(HeapFault::CellLimit)
-    );
-    assert_eq!(rt;
-        add_scope(&rt, &mut heap, PAGE, None),
-        Err(HeapFault::CellLimit)
-    );
-    assert_eq!(rt; add(&rt, &mut heap, SCRIPT, Form::Array), Ok(CellId(1)));
-    assert_eq!(rt; heap.room(PAGE), 0);
-    assert_eq!(rt; heap.room(SCRIPT), 0);
-    assert_eq!(rt; heap.room(Actor(7)), 1);
-    assert!(rt; stands(&heap, CellId(0)) && stands(&heap, CellId(1)));
-    assert_eq!(rt; heap.owner(CellId(0)), PAGE);
-    assert_eq!(rt; heap.owner(CellId(1)), SCRIPT);
-    assert!(rt; matches!(heap.form(CellId(1)), Form::Array));
+    for (owner, added) in [
+        (PAGE, Ok(CellId(0))),
+        (PAGE, Err(HeapFault::CellLimit)),
+        (SCRIPT, Ok(CellId(1))),
+        (SCRIPT, Err(HeapFault::CellLimit)),
+    ] {
+        let result = add(&rt, &mut heap, owner, Form::Plain);
+        assert!(rt; result == added);
+    }
+    let scope = add_scope(&rt, &mut heap, PAGE, None);
+    assert!(rt; scope == Err(HeapFault::CellLimit));
+    for (owner, room) in [(PAGE, 0), (SCRIPT, 0), (Actor(7), 1)] {
+        assert!(rt; heap.room(owner) == room);
+    }
+    for (at, owner) in [(0, PAGE), (1, SCRIPT)] {
+        assert!(rt; stands(&heap, CellId(at)));
+        assert!(rt; heap.owner(CellId(at)) == owner);
+    }
     Ok(())
 }
 
@@ -223,30 +255,24 @@ fn keys_stand_in_order_of_insertion(rt: HostRuntime) -> Result<(), Fail> {
     let alloc = rt.alloc();
     let mut heap = Heap::new(alloc, 10);
     let c = add(&rt, &mut heap, PAGE, Form::Plain)?;
-    for (key, prop) in [
-        ("b", plain(1)),
-        ("a", plain(2)),
-        ("hidden", data(number(3), true, false)),
-        ("1", plain(4)),
-        ("b", plain(5)),
+    for (key, n, enumerable) in [
+        ("b", 1, true),
+        ("a", 2, true),
+        ("hidden", 3, false),
+        ("1", 4, true),
+        ("b", 5, true),
     ] {
-        assert_eq!(rt;
-            define(&rt, &mut heap, c, &Text::of(alloc, key)?, prop),
-            None
-        );
+        let prop = data(number(n), true, enumerable);
+        defines(&rt, alloc, &mut heap, c, key, prop, None)?;
     }
-    assert!(rt; keys_are(&rt, &heap, c, &["b", "a", "1"])?);
-    assert_eq!(rt; read(&rt, &heap, c, &Text::of(alloc, "b")?), Some(5));
-    assert_eq!(rt; read(&rt, &heap, c, &Text::of(alloc, "hidden")?), Some(3));
-    assert!(rt; remove(&rt, &mut heap, c, &Text::of(alloc, "b")?));
-    assert!(rt; !remove(&rt, &mut heap, c, &Text::of(alloc, "b")?));
-    assert!(rt; keys_are(&rt, &heap, c, &["a", "1"])?);
-    assert_eq!(rt;
-        define(&rt, &mut heap, c, &Text::of(alloc, "b")?, plain(6)),
-        None
-    );
-    assert!(rt; keys_are(&rt, &heap, c, &["a", "1", "b"])?);
-    Ok(())
+    has_keys(&rt, &heap, c, &["b", "a", "1"])?;
+    reads(&rt, alloc, &heap, c, "b", Some(5))?;
+    reads(&rt, alloc, &heap, c, "hidden", Some(3))?;
+    removes(&rt, alloc, &mut heap, c, "b", true)?;
+    removes(&rt, alloc, &mut heap, c, "b", false)?;
+    has_keys(&rt, &heap, c, &["a", "1"])?;
+    defines(&rt, alloc, &mut heap, c, "b", plain(6), None)?;
+    has_keys(&rt, &heap, c, &["a", "1", "b"])
 }
 
 #[test]
@@ -256,90 +282,61 @@ fn arrays_are_dense(rt: HostRuntime) -> Result<(), Fail> {
     let c = add(&rt, &mut heap, PAGE, Form::Array)?;
     let sparse = Some(HeapFault::Sparse);
     let kind = Some(HeapFault::Kind);
-    for (key, prop, fault) in [
-        ("length", plain(0), kind),
-        ("length", data(number(0), true, false), None),
-        ("1", plain(9), sparse),
-        ("0", plain(9), None),
-        ("x", plain(8), None),
-        ("1", data(number(1), false, true), kind),
-        ("1", data(number(1), true, false), kind),
-        ("2", data(number(1), true, false), sparse),
-        ("0", accessor(), kind),
-        ("1", plain(7), None),
-        ("0", plain(6), None),
-        ("00", plain(5), None),
-        ("-1", plain(4), None),
-        ("9007199254740991", plain(3), sparse),
-        ("9007199254740992", plain(2), None),
-        ("99999999999999999999", plain(2), None),
-        ("length", data(number(3), true, false), sparse),
-        ("length", data(number(-1), true, false), sparse),
-        ("length", data(number(3), false, false), sparse),
-        ("length", data(number(1), false, false), kind),
-        ("length", data(number(1), true, true), kind),
-        (
-            "length",
-            data(Slot::Prim(Primitive::Null), true, false),
-            kind,
-        ),
-        ("length", accessor(), kind),
+    for (key, n, writable, enumerable, fault) in [
+        ("length", 0, true, true, kind),
+        ("length", 0, true, false, None),
+        ("1", 9, true, true, sparse),
+        ("0", 9, true, true, None),
+        ("x", 8, true, true, None),
+        ("1", 1, false, true, kind),
+        ("1", 1, true, false, kind),
+        ("2", 1, true, false, sparse),
+        ("1", 7, true, true, None),
+        ("0", 6, true, true, None),
+        ("00", 5, true, true, None),
+        ("-1", 4, true, true, None),
+        ("9007199254740991", 3, true, true, sparse),
+        ("9007199254740992", 2, true, true, None),
+        ("99999999999999999999", 2, true, true, None),
+        ("length", 3, true, false, sparse),
+        ("length", -1, true, false, sparse),
+        ("length", 3, false, false, sparse),
+        ("length", 1, false, false, kind),
+        ("length", 1, true, true, kind),
     ] {
-        assert_eq!(rt;
-            define(&rt, &mut heap, c, &Text::of(alloc, key)?, prop),
-            fault
-        );
+        let prop = data(number(n), writable, enumerable);
+        defines(&rt, alloc, &mut heap, c, key, prop, fault)?;
     }
-    assert!(rt;
-        keys_are(
-            &rt,
-            &heap,
-            c,
-            &[
-                "0",
-                "1",
-                "x",
-                "00",
-                "-1",
-                "9007199254740992",
-                "99999999999999999999"
-            ]
-        )?
-    );
-    for (key, value) in [
-        ("0", Some(6)),
-        ("1", Some(7)),
-        ("2", None),
-        ("length", Some(2)),
-        ("00", Some(5)),
-        ("x", Some(8)),
-    ] {
-        assert_eq!(rt; read(&rt, &heap, c, &Text::of(alloc, key)?), value);
+    defines(&rt, alloc, &mut heap, c, "0", accessor(), kind)?;
+    defines(&rt, alloc, &mut heap, c, "length", accessor(), kind)?;
+    let null = data(Slot::Prim(Primitive::Null), true, false);
+    defines(&rt, alloc, &mut heap, c, "length", null, kind)?;
+    let other = ["x", "00", "-1", "9007199254740992", "99999999999999999999"];
+    for (key, n) in [("0", 6), ("1", 7), ("length", 2), ("00", 5), ("x", 8)] {
+        reads(&rt, alloc, &heap, c, key, Some(n))?;
     }
-    assert!(rt; remove(&rt, &mut heap, c, &Text::of(alloc, "x")?));
     for key in ["0", "1", "2", "length"] {
-        assert!(rt; !remove(&rt, &mut heap, c, &Text::of(alloc, key)?));
+        removes(&rt, alloc, &mut heap, c, key, false)?;
     }
-    assert_eq!(rt; read(&rt, &heap, c, &Text::of(alloc, "1")?), Some(7));
-    assert_eq!(rt;
-        define(
-            &rt,
-            &mut heap,
-            c,
-            &Text::of(alloc, "length")?,
-            data(number(1), true, false)
-        ),
-        None
-    );
-    for (key, value) in [
-        ("0", Some(6)),
-        ("1", None),
-        ("length", Some(1)),
-        ("x", None),
-    ] {
-        assert_eq!(rt; read(&rt, &heap, c, &Text::of(alloc, key)?), value);
+    for key in other {
+        removes(&rt, alloc, &mut heap, c, key, true)?;
     }
-    Ok(())
+    has_keys(&rt, &heap, c, &["0", "1"])
+}
+
+#[test]
+fn a_length_cuts(rt: HostRuntime) -> Result<(), Fail> {
+    let alloc = rt.alloc();
+    let mut heap = Heap::new(alloc, 10);
+    let c = add(&rt, &mut heap, PAGE, Form::Array)?;
+    for key in ["x", "0", "1", "2"] {
+        defines(&rt, alloc, &mut heap, c, key, plain(1), None)?;
+    }
+    has_keys(&rt, &heap, c, &["0", "1", "2", "x"])?;
+    let cut = data(number(1), true, false);
+    defines(&rt, alloc, &mut heap, c, "length", cut, None)?;
+    reads(&rt, alloc, &heap, c, "length", Some(1))?;
+    has_keys(&rt, &heap, c, &["0", "x"])
 }
 
 fn accessor() -> Prop {
@@ -357,62 +354,37 @@ fn a_long_array_is_pushed_and_cut(rt: HostRuntime) -> Result<(), Fail> {
     let c = add(&rt, &mut heap, PAGE, Form::Array)?;
     for n in 0..10_000 {
         let key = Text::decimal(alloc, n)?;
-        assert_eq!(rt; define(&rt, &mut heap, c, &key, plain(n)), None);
+        defines(&rt, alloc, &mut heap, c, key.as_str(), plain(n), None)?;
     }
-    assert_eq!(rt;
-        read(&rt, &heap, c, &Text::of(alloc, "length")?),
-        Some(10_000)
-    );
-    assert_eq!(rt; read(&rt, &heap, c, &Text::of(alloc, "9999")?), Some(9_999));
-    assert!(rt; stands(&heap, c));
-    assert_eq!(rt; heap.keys(c)?.len(), 10_000);
-    assert_eq!(rt;
-        define(
-            &rt,
-            &mut heap,
-            c,
-            &Text::of(alloc, "length")?,
-            data(number(1), true, false)
-        ),
-        None
-    );
-    assert_eq!(rt; read(&rt, &heap, c, &Text::of(alloc, "0")?), Some(0));
-    assert_eq!(rt; read(&rt, &heap, c, &Text::of(alloc, "1")?), None);
-    Ok(())
+    reads(&rt, alloc, &heap, c, "length", Some(10_000))?;
+    reads(&rt, alloc, &heap, c, "9999", Some(9_999))?;
+    let cut = data(number(1), true, false);
+    defines(&rt, alloc, &mut heap, c, "length", cut, None)?;
+    reads(&rt, alloc, &heap, c, "0", Some(0))?;
+    reads(&rt, alloc, &heap, c, "1", None)
 }
 
 #[test]
 fn chains_dont_close(rt: HostRuntime) -> Result<(), Fail> {
+    let cycle = Err(HeapFault::Cycle);
     let alloc = rt.alloc();
     let mut heap = Heap::new(alloc, 2_000);
     let first = add(&rt, &mut heap, PAGE, Form::Plain)?;
-    assert_eq!(rt;
-        set_proto(&rt, &mut heap, first, Some(first)),
-        Err(HeapFault::Cycle)
-    );
+    sets_proto(&rt, &mut heap, first, Some(first), cycle);
     let mut last = first;
     for _ in 0..1_000 {
         let next = add(&rt, &mut heap, PAGE, Form::Plain)?;
-        assert_eq!(rt; set_proto(&rt, &mut heap, next, Some(last)), Ok(()));
+        sets_proto(&rt, &mut heap, next, Some(last), Ok(()));
         last = next;
     }
-    assert_eq!(rt; proto(&rt, &heap, last), Some(CellId(last.0 - 1)));
-    assert_eq!(rt;
-        set_proto(&rt, &mut heap, first, Some(last)),
-        Err(HeapFault::Cycle)
-    );
-    assert_eq!(rt;
-        set_proto(&rt, &mut heap, first, Some(CellId(1))),
-        Err(HeapFault::Cycle)
-    );
-    assert_eq!(rt; proto(&rt, &heap, first), None);
-    assert_eq!(rt; set_proto(&rt, &mut heap, last, Some(first)), Ok(()));
-    assert_eq!(rt; set_proto(&rt, &mut heap, CellId(1), Some(last)), Ok(()));
-    assert_eq!(rt;
-        set_proto(&rt, &mut heap, first, Some(CellId(500))),
-        Err(HeapFault::Cycle)
-    );
-    assert_eq!(rt; set_proto(&rt, &mut heap, first, None), Ok(()));
+    assert!(rt; proto(&rt, &heap, last) == Some(CellId(999)));
+    sets_proto(&rt, &mut heap, first, Some(last), cycle);
+    sets_proto(&rt, &mut heap, first, Some(CellId(1)), cycle);
+    assert!(rt; proto(&rt, &heap, first).is_none());
+    sets_proto(&rt, &mut heap, last, Some(first), Ok(()));
+    sets_proto(&rt, &mut heap, CellId(1), Some(last), Ok(()));
+    sets_proto(&rt, &mut heap, first, Some(CellId(500)), cycle);
+    sets_proto(&rt, &mut heap, first, None, Ok(()));
     Ok(())
 }
 
@@ -421,16 +393,15 @@ fn places_are_given_once(rt: HostRuntime) -> Result<(), Fail> {
     let alloc = rt.alloc();
     let mut heap = Heap::new(alloc, 10);
     let a = add(&rt, &mut heap, PAGE, Form::Plain)?;
-    let scope = add_scope(&rt, &mut heap, PAGE, None)?;
     let b = add(&rt, &mut heap, PAGE, Form::Plain)?;
     let other = add(&rt, &mut heap, SCRIPT, Form::Plain)?;
-    assert_eq!(rt; place(&rt, &heap, b), None);
-    assert_eq!(rt; give_place(&rt, &mut heap, b)?, 0);
-    assert_eq!(rt; give_place(&rt, &mut heap, b)?, 0);
-    assert_eq!(rt; give_place(&rt, &mut heap, other)?, 0);
+    assert!(rt; place(&rt, &heap, b).is_none());
+    is_given(&rt, &mut heap, b, 0)?;
+    is_given(&rt, &mut heap, b, 0)?;
+    is_given(&rt, &mut heap, other, 0)?;
     heap.skip_places(PAGE, 300)?;
     heap.skip_places(PAGE, 300)?;
-    assert_eq!(rt; give_place(&rt, &mut heap, a)?, 300);
+    is_given(&rt, &mut heap, a, 300)?;
     for (owner, place, cell) in [
         (PAGE, 0, Some(b)),
         (PAGE, 1, None),
@@ -440,41 +411,47 @@ fn places_are_given_once(rt: HostRuntime) -> Result<(), Fail> {
         (SCRIPT, 0, Some(other)),
         (Actor(9), 0, None),
     ] {
-        assert_eq!(rt; heap.at_place(owner, place), cell);
+        assert!(rt; heap.at_place(owner, place) == cell);
     }
-    assert_eq!(rt; place(&rt, &heap, a), Some(300));
-    assert_eq!(rt; place(&rt, &heap, scope), None);
+    assert!(rt; place(&rt, &heap, a) == Some(300));
     Ok(())
 }
 
 #[test]
-fn standards_and_scopes(rt: HostRuntime) -> Result<(), Fail> {
+fn standards_are_each_owners_own(rt: HostRuntime) -> Result<(), Fail> {
     let alloc = rt.alloc();
     let mut heap = Heap::new(alloc, 10);
     let a = add(&rt, &mut heap, PAGE, Form::Plain)?;
     let b = add(&rt, &mut heap, PAGE, Form::Plain)?;
-    assert_eq!(rt; heap.standard(PAGE, Standard::Object), None);
-    set_standard(&rt, &mut heap, Standard::Object, a)?;
-    set_standard(&rt, &mut heap, Standard::Thing(Kind::Event), a)?;
-    set_standard(&rt, &mut heap, Standard::Thing(Kind::Event), b)?;
-    assert_eq!(rt; heap.standard(PAGE, Standard::Object), Some(a));
-    assert_eq!(rt; heap.standard(PAGE, Standard::Thing(Kind::Event)), Some(b));
-    assert_eq!(rt; heap.standard(PAGE, Standard::Thing(Kind::Window)), None);
-    assert_eq!(rt; heap.standard(SCRIPT, Standard::Object), None);
+    let event = Standard::Thing(Kind::Event);
+    assert!(rt; heap.standard(PAGE, Standard::Object).is_none());
+    for (standard, cell) in [(Standard::Object, a), (event, a), (event, b)] {
+        set_standard(&rt, &mut heap, standard, cell)?;
+    }
+    for (owner, standard, cell) in [
+        (PAGE, Standard::Object, Some(a)),
+        (PAGE, event, Some(b)),
+        (PAGE, Standard::Thing(Kind::Window), None),
+        (SCRIPT, Standard::Object, None),
+    ] {
+        assert!(rt; heap.standard(owner, standard) == cell);
+    }
+    Ok(())
+}
+
+#[test]
+fn scopes_have_names_of_their_own(rt: HostRuntime) -> Result<(), Fail> {
+    let alloc = rt.alloc();
+    let mut heap = Heap::new(alloc, 10);
     let outer = add_scope(&rt, &mut heap, PAGE, None)?;
     let inner = add_scope(&rt, &mut heap, PAGE, Some(outer))?;
     assert!(rt; stands(&heap, outer) && stands(&heap, inner));
-    assert_eq!(rt; heap.scope_outer(outer), None);
-    assert_eq!(rt; heap.scope_outer(inner), Some(outer));
+    assert!(rt; heap.scope_outer(outer).is_none());
+    assert!(rt; heap.scope_outer(inner) == Some(outer));
     let x = Text::of(alloc, "x")?;
     scope_set(&rt, &mut heap, outer, &x, 1)?;
     scope_set(&rt, &mut heap, outer, &x, 2)?;
-    assert!(rt;
-        matches!(
-            scope_get(&rt, &heap, outer, &x),
-            Some(Slot::Prim(Primitive::Number(2)))
-        )
-    );
+    assert!(rt; scope_get(&rt, &heap, outer, &x) == Some(2));
     assert!(rt; scope_get(&rt, &heap, inner, &x).is_none());
     Ok(())
 }
