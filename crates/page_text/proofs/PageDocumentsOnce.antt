@@ -1,6 +1,6 @@
 -- The text of a document is read in one way.
 use Rattle.std.proofs.Common.{◌≡◌, ℕ, ◌+◌, ◌<◌, Bool, true, false, cond, nat_lt, List, [], ◌∷◌, ◌++◌, length, refl, ap, sym, ◌∙◌, arith}
-use Rattle.std.specs.Prelude.{◌==◌, ◌&&◌}
+use Rattle.std.specs.Prelude.{◌==◌}
 use Rattle.std.specs.Str.{chars}
 use Rattle.std.specs.Char.{to_ascii_lowercase}
 use Rattle.std.proofs.lemmas.Bool.{and_left, eq-eqb}
@@ -16,7 +16,7 @@ use Rattle.page_text.specs.PageGrammar.{IsNodes, no_more, comment, void_element,
 use Rattle.page_text.specs.PageGrammar.{IsTop, top_end, white_space, top_comment, top_doctype, top_element, IsDocument}
 use Rattle.page_text.proofs.PageParts.{not_both, run_same, front_same}
 use Rattle.page_text.proofs.PageTagsOnce.{start_tag_once, end_tag_once, comment_once, doctype_once}
-use Rattle.page_text.proofs.PageNodesOnce.{behind_mark, kind_at, letter_behind, element_kind, unlike, void_kind, holder_kind, normal_kind}
+use Rattle.page_text.proofs.PageNodesOnce.{behind_mark, kind_at, letter_behind, unlike, void_kind, holder_kind, normal_kind}
 use Rattle.page_text.proofs.PageNodesOnce.{entities_in, holder_is, inside_once, same_element, nodes_once, end_kind}
 
 -- ---- what stands at the front of a text at the top: nothing, white space, a comment, an element, a doctype
@@ -45,7 +45,7 @@ letter_at c true w h g l = grind (arith, nat_tests)
 letter_at c false true h g l = grind (arith, nat_tests)
 letter_at c false false h g l = grind (arith, nat_tests)
 
-letter_no_mark : (c : ℕ) → is_letter c ≡ true → (to_ascii_lowercase c == 33) ≡ false
+pub letter_no_mark : (c : ℕ) → is_letter c ≡ true → (to_ascii_lowercase c == 33) ≡ false
 letter_no_mark c l = letter_at c (nat_lt c 65) (nat_lt c 91) refl refl l
 
 space_at : (b : ℕ) (v w : Bool) → nat_lt b 65 ≡ v → nat_lt b 91 ≡ w → b < 60 → (cond v b (cond w (b + 32) b) == 60) ≡ false

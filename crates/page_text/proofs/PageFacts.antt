@@ -1,18 +1,17 @@
 -- The facts on pages and faults, by the cases of the grammar.
-use Rattle.std.proofs.Common.{◌≡◌, ℕ, ◌≤◌, inr, Bool, true, false, [], ◌∷◌, ◌++◌, length, refl, sym, ◌∙◌, arith, codes}
+use Rattle.std.proofs.Common.{◌≡◌, ℕ, ◌≤◌, inr, Bool, true, false, [], ◌∷◌, ◌++◌, length, refl, arith, codes}
 use Rattle.std.specs.Str.{chars}
 use Rattle.std.specs.Char.{encode_utf8}
 use Rattle.base_text.specs.declared.text.TheConstants.{TEXT_LIMIT}
-use Rattle.door.specs.declared.limits.TheConstants.{DEPTH_LIMIT, NODE_LIMIT}
 use Rattle.dom_semantics.specs.Whitespace.{is_white_space}
 use Rattle.page_text.specs.Bytes.{Bytes, is_letter, is_name_byte, is_attribute_byte, begins, lowered}
 use Rattle.page_text.specs.PageSpelling.{AreAll, Run, Space, is_unquoted, no_line, in_line, return_and_line_feed, no_character, entity}
 use Rattle.page_text.specs.PageSpelling.{itself, lt, as_it_stands, with_entities}
 use Rattle.page_text.specs.PageTags as tags
 use Rattle.page_text.specs.PageTags.{StartTag, IsStartTag, IsEndTag, IsShort}
-use Rattle.page_text.specs.PageNodes.{NoNodes}
+use Rattle.page_text.specs.PageNodes.{NoNodes, Element}
 use Rattle.page_text.specs.PageGrammar as grammar
-use Rattle.page_text.specs.PageGrammar.{HasRoom, is_normal}
+use Rattle.page_text.specs.PageGrammar.{HasRoom, is_normal, IsTop}
 use Rattle.page_text.specs.PageOpen as places
 use Rattle.page_text.specs.PageOpen.{Opens, opening}
 use Rattle.page_text.specs.PageFaults as faults
@@ -63,10 +62,10 @@ the_pages = record {
   titled = (
     true,
     grammar.top_element
-        (grammar.text_element {raw = codes "&lt;" ++ (13 ∷ (10 ∷ []))} {at_end = codes "</title>"} {t = record { name = codes "title"; attributes = [] }}
+        (grammar.text_element {raw = codes "&lt;" ++ (13 ∷ (10 ∷ []))} {at_end = codes "</title>"} {t = record { name = codes "title"; attributes = [] }} {entities = true}
         (record { shallow = omega arith; few = omega arith })
         (plain_tag (codes "title") (codes "&lt;" ++ (13 ∷ (10 ∷ codes "</title>"))) refl (refl, (refl, (refl, (refl, (refl, tt))))))
-        (short (codes "title") (omega arith)) grammar.title
+        (short (codes "title") (omega arith)) refl
         (record { whole = refl; nowhere = (refl, (refl, (refl, (refl, (refl, (refl, tt)))))); stop = inr refl })
         (grammar.filled {content = 60 ∷ (10 ∷ [])} (omega arith) (record { shallow = omega arith; few = omega arith })
         (with_entities {lines = codes "&lt;" ++ 10 ∷ []} (in_line refl (in_line refl (in_line refl (in_line refl (return_and_line_feed no_line)))))
@@ -137,6 +136,13 @@ no_end_tag more name (tags.end_tag {inside = inside} {raw = raw} {after_name = a
     let last : 62 ∷ [] ≡ 120 ∷ more = (run_once is_white_space after_name gap (62 ∷ []) (codes " ") (codes "x" ++ more) space blank).1 in
     absurd (omega (arith, other_bytes 62 120 [] more last))
 
+-- a `br` alone at the top
+a_break : (rest : Bytes) → IsTop false 1 (codes "<br>" ++ rest) (Element (codes "br") [] NoNodes NoNodes) true rest
+unfolding chars encode_utf8
+a_break rest =
+    grammar.top_element
+    (grammar.void_element {t = plain (codes "br")} (record { shallow = omega arith; few = omega arith }) (br_tag rest) (short (codes "br") (omega arith)) refl grammar.no_more) grammar.top_end
+
 pub the_faults : AreFaults
 unfolding chars encode_utf8
 the_faults = record {
@@ -149,7 +155,7 @@ the_faults = record {
   };
   innermost = record {
     has_element = true;
-    open_there = opening (codes "<p>") (plain (codes "p")) ∷ opening (codes "<a><p>") (plain (codes "a")) ∷ [];
+    open_there = opening 2 (codes "<p>") (plain (codes "p")) ∷ opening 1 (codes "<a><p>") (plain (codes "a")) ∷ [];
     rest = [];
     reached = places.in_element {at = codes "<a><p>"} grammar.top_end (a_opens 1 (codes "<p>") refl)
         (places.deeper {at = codes "<p>"} {nodes = NoNodes} grammar.no_more (record {
@@ -158,18 +164,18 @@ the_faults = record {
           short = short (codes "p") (omega arith);
           normal = refl;
         }) (places.here grammar.no_more));
-    stands = faults.unclosed (opening (codes "<p>") (plain (codes "p"))) refl refl;
+    stands = faults.unclosed (opening 2 (codes "<p>") (plain (codes "p"))) refl refl;
   };
   other_name = record {
     has_element = true;
-    open_there = opening (codes "<a></b>") (plain (codes "a")) ∷ [];
+    open_there = opening 1 (codes "<a></b>") (plain (codes "a")) ∷ [];
     rest = codes "</b>";
     reached = places.in_element {at = codes "<a></b>"} grammar.top_end (a_opens 1 (codes "</b>") refl) (places.here grammar.no_more);
     stands = faults.wrong_end (plain_end (codes "b") [] refl (refl, tt)) (λ e. absurd (omega (arith, other_bytes 97 98 [] [] e)));
   };
   other_byte = record {
     has_element = true;
-    open_there = opening (codes "<a></b x>") (plain (codes "a")) ∷ [];
+    open_there = opening 1 (codes "<a></b x>") (plain (codes "a")) ∷ [];
     rest = codes "</b x>";
     reached = places.in_element {at = codes "<a></b x>"} grammar.top_end (a_opens 1 (codes "</b x>") refl) (places.here grammar.no_more);
     stands = faults.in_end_tag refl (faults.end_breaks_off (record {
@@ -189,5 +195,57 @@ the_faults = record {
       );
       over = λ more h. no_end_tag more h.0 h.1;
     }));
+  };
+  nothing_begins = record {
+    has_element = false;
+    open_there = [];
+    rest = codes "<!x";
+    reached = places.at_top grammar.top_end;
+    stands = faults.bad_markup refl refl;
+  };
+  late = record {
+    has_element = true;
+    open_there = [];
+    rest = codes "<!doctype a>";
+    reached = places.at_top (a_break (codes "<!doctype a>"));
+    stands = faults.late_doctype refl refl;
+  };
+  endless_doctype = record {
+    has_element = false;
+    open_there = [];
+    rest = codes "<!doctype a";
+    reached = places.at_top grammar.top_end;
+    stands = faults.no_doctype_end refl refl (refl, (refl, (refl, (refl, (refl, (refl, (refl, (refl, (refl, (refl, (refl, tt)))))))))));
+  };
+  text = record {
+    has_element = false;
+    open_there = [];
+    rest = codes "a";
+    reached = places.at_top (grammar.white_space {gap = codes " "} {behind = codes "a"} (run_of is_white_space (codes " ") (codes "a") (refl, tt) refl) (omega arith) grammar.top_end);
+    stands = faults.text_at_top refl refl refl;
+  };
+  second = record {
+    has_element = true;
+    open_there = [];
+    rest = codes "<br>";
+    reached = places.at_top (a_break (codes "<br>"));
+    stands = faults.second_element refl refl;
+  };
+  endless_comment = record {
+    has_element = false;
+    open_there = [];
+    rest = codes "<!--a--";
+    reached = places.at_top grammar.top_end;
+    stands = faults.in_comment (record { shallow = omega arith; few = omega arith }) (faults.no_comment_end (codes "a--") refl (refl, (refl, (refl, tt))));
+  };
+  endless_title = record {
+    has_element = false;
+    open_there = [];
+    rest = codes "<title></a>";
+    reached = places.at_top grammar.top_end;
+    stands = faults.in_element refl refl (record { shallow = omega arith; few = omega arith })
+        (faults.in_text {t = plain (codes "title")} {inside = codes "</a>"} {entities = true}
+        (plain_tag (codes "title") (codes "</a>") refl (refl, (refl, (refl, (refl, (refl, tt)))))) (short (codes "title") (omega arith)) refl
+        (faults.no_end_tag (λ h. record { shallow = omega arith; few = omega arith }) (refl, (refl, (refl, (refl, tt))))));
   };
 }

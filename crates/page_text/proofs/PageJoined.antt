@@ -1,5 +1,5 @@
 -- Nodes side by side, and nodes behind them, are nodes side by side.
-use Rattle.std.proofs.Common.{◌≡◌, ℕ, suc, ◌+◌, List, [], ◌∷◌, ◌++◌, map, refl, ap, sym, ◌∙◌, arith}
+use Rattle.std.proofs.Common.{◌≡◌, ℕ, suc, ◌+◌, arith}
 use Rattle.page_text.specs.Bytes.{Bytes}
 use Rattle.page_text.specs.PageNodes.{Nodes, NoNodes, Element, Text, Comment, count, joined}
 use Rattle.page_text.specs.PageGrammar.{IsNodes, no_more, comment, text_run, void_element, text_element, normal_element}

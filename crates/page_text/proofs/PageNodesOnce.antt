@@ -1,8 +1,9 @@
 -- Nodes side by side, up to an end tag, are read in one way.
-use Rattle.std.proofs.Common.{◌≡◌, ℕ, ◌<◌, ◌≤◌, ◌⊎◌, inl, inr, Bool, true, false, cond, not, List, [], ◌∷◌, ◌++◌, length, refl, ap, sym, ◌∙◌, arith, codes}
-use Rattle.std.specs.Prelude.{◌==◌, ◌||◌}
+use Rattle.std.proofs.Common.{◌≡◌, ℕ, ◌<◌, Bool, true, false, cond, not, List, [], ◌∷◌, ◌++◌, Option, Some, None, length, refl, ap, sym, ◌∙◌, arith, codes}
+use Rattle.std.specs.Prelude.{◌==◌, ◌||◌, encode_utf8_all}
+use Rattle.std.specs.Option.{unwrap_or}
 use Rattle.std.specs.Str.{chars}
-use Rattle.std.specs.Char.{encode_utf8}
+use Rattle.std.proofs.lemmas.Slice.Eq.{bytes_eq-Decides}
 use Rattle.std.proofs.lemmas.Bool.{or_parts, eqb-true, eq-eqb}
 use Rattle.page_text.specs.Bytes.{Bytes, is_letter, begins}
 use Rattle.page_text.specs.Nodes.{is_named, is_void}
@@ -10,7 +11,7 @@ use Rattle.page_text.specs.PageSpelling.{UpTo, begins_markup, IsRead}
 use Rattle.page_text.specs.PageTags as tags
 use Rattle.page_text.specs.PageTags.{StartTag, IsStartTag, IsEndTag, IsComment, tag_of, attributes_of}
 use Rattle.page_text.specs.PageNodes.{Nodes, NoNodes, Element, Text, Comment}
-use Rattle.page_text.specs.PageGrammar.{HoldsText, script, style, title, textarea, is_text_holder, begins_end_of, IsTextInside, empty, filled, is_normal}
+use Rattle.page_text.specs.PageGrammar.{HoldsText, text_in, is_text_holder, begins_end_of, IsTextInside, empty, filled, is_normal}
 use Rattle.page_text.specs.PageGrammar.{IsNodes, no_more, comment, text_run, void_element, text_element, normal_element}
 use Rattle.page_text.proofs.PageParts.{not_both, front_same}
 use Rattle.page_text.proofs.PageValues.{read_as, read_is}
@@ -37,7 +38,7 @@ pub end_kind : (text name rest : Bytes) → IsEndTag text name rest → kind_at 
 unfolding kind_at behind_mark
 end_kind text _ rest (tags.end_tag e letter run space) = rw e refl
 
-no_letter : (c d : ℕ) (v : Bool) → (c == d) ≡ v → is_letter d ≡ false → is_letter c ≡ true → v ≡ false
+pub no_letter : (c d : ℕ) (v : Bool) → (c == d) ≡ v → is_letter d ≡ false → is_letter c ≡ true → v ≡ false
 no_letter c d true h n letter = absurd (not_both (sym letter ∙ (ap is_letter (eqb-true c d h) ∙ n)))
 no_letter c d false h n letter = refl
 
@@ -70,12 +71,21 @@ pub void_kind : (tag : List ℕ) → is_void tag ≡ true → element_kind tag �
 unfolding element_kind
 void_kind tag h = rw h refl
 
+held_word : (word tag : List ℕ) → is_named word tag ≡ true → encode_utf8_all tag ≡ word
+held_word word tag h = (bytes_eq-Decides (encode_utf8_all tag) word).0 h
+
+holder_kind_at : (tag : List ℕ) (entities a b c d : Bool) → is_named (codes "script") tag ≡ a → is_named (codes "style") tag ≡ b → is_named (codes "title") tag ≡ c
+    → is_named (codes "textarea") tag ≡ d → cond a (Some false) (cond b (Some false) (cond c (Some true) (cond d (Some true) None))) ≡ Some entities → element_kind tag ≡ 1
+unfolding element_kind
+holder_kind_at tag entities true b c d e f g i h = rw (held_word (codes "script") tag e) refl
+holder_kind_at tag entities false true c d e f g i h = rw (held_word (codes "style") tag f) refl
+holder_kind_at tag entities false false true d e f g i h = rw (held_word (codes "title") tag g) refl
+holder_kind_at tag entities false false false true e f g i h = rw (held_word (codes "textarea") tag i) refl
+holder_kind_at tag entities false false false false e f g i h = absurd (cc)
+
 pub holder_kind : (tag : List ℕ) (entities : Bool) → HoldsText tag entities → element_kind tag ≡ 1
-unfolding element_kind encode_utf8
-holder_kind _ _ script = refl
-holder_kind _ _ style = refl
-holder_kind _ _ title = refl
-holder_kind _ _ textarea = refl
+holder_kind tag entities h =
+    holder_kind_at tag entities (is_named (codes "script") tag) (is_named (codes "style") tag) (is_named (codes "title") tag) (is_named (codes "textarea") tag) refl refl refl refl h
 
 not_true : (x : Bool) → not x ≡ true → x ≡ false
 not_true true h = sym h
@@ -88,14 +98,11 @@ normal_kind tag h =
     rw both.0 (rw both.1 refl)
 
 pub entities_in : List ℕ → Bool
-entities_in tag = is_named (codes "title") tag || is_named (codes "textarea") tag
+entities_in tag = unwrap_or (text_in tag) false
 
 pub holder_is : (tag : List ℕ) (entities : Bool) → HoldsText tag entities → entities ≡ entities_in tag
-unfolding entities_in encode_utf8
-holder_is _ _ script = refl
-holder_is _ _ style = refl
-holder_is _ _ title = refl
-holder_is _ _ textarea = refl
+unfolding entities_in
+holder_is tag entities h = ap (λ (o : Option Bool). unwrap_or o false) (sym h)
 
 some_text : (raw other : Bytes) → raw ≡ other → raw ≡ [] → 0 < length other → ⊥
 some_text raw other e f some = absurd (omega (arith, some, ap length (sym e ∙ f)))

@@ -12,7 +12,7 @@ same_head b c bs cs e = cc
 pub same_tail : (b c : ℕ) (bs cs : Bytes) → b ∷ bs ≡ c ∷ cs → bs ≡ cs
 same_tail b c bs cs e = cc
 
-both_same : (b c : ℕ) (bs cs : Bytes) → b ≡ c → bs ≡ cs → b ∷ bs ≡ c ∷ cs
+pub both_same : (b c : ℕ) (bs cs : Bytes) → b ≡ c → bs ≡ cs → b ∷ bs ≡ c ∷ cs
 both_same b c bs cs e f = cc
 
 pub one_run : (q : ℕ → Bool) (r s x y : Bytes) → r ++ s ≡ x ++ y → AreAll q r → begins q s ≡ false → AreAll q x → begins q y ≡ false → (r ≡ x) × (s ≡ y)

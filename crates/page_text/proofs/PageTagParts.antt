@@ -1,20 +1,18 @@
 -- A tag, a comment and a doctype at the front of a text are read in one way.
-use Rattle.std.proofs.Common.{◌≡◌, ℕ, ◌<◌, Bool, true, false, not, List, [], ◌∷◌, ◌++◌, length, refl, ap, sym, ◌∙◌, arith, codes}
+use Rattle.std.proofs.Common.{◌≡◌, ℕ, Bool, true, false, not, [], ◌∷◌, ◌++◌, refl, ap, sym, ◌∙◌}
 use Rattle.std.specs.Prelude.{◌==◌}
 use Rattle.std.proofs.lemmas.Bool.{eq-eqb}
 use Rattle.dom_semantics.specs.Whitespace.{is_white_space}
-use Rattle.page_text.specs.Bytes.{Bytes, is_name_byte, is_attribute_byte, begins, sees, lowered}
-use Rattle.page_text.specs.PageSpelling.{AreAll, Run, Space, UpTo, is_other, is_quote, is_unquoted, IsRead}
-use Rattle.page_text.specs.PageTags.{ReadAttribute, StartTag, IsEquals, equals, IsValue, quoted, unquoted, IsAttribute, bare, valued}
-use Rattle.page_text.specs.PageTags.{AreAttributes, no_more, one_more, EndsTag, closed, slashed, IsStartTag, start_tag, IsEndTag, end_tag}
-use Rattle.page_text.specs.PageTags.{IsComment, comment, begins_comment_end, IsDoctype, doctype}
-use Rattle.page_text.proofs.PageParts.{not_both, same_head, same_tail, one_run, run_same, front_same}
+use Rattle.page_text.specs.Bytes.{Bytes, is_attribute_byte, begins, sees, lowered}
+use Rattle.page_text.specs.PageSpelling.{AreAll, Space, is_other, is_quote, is_unquoted}
+use Rattle.page_text.specs.PageTags.{ReadAttribute, IsEquals, equals, IsValue, quoted, unquoted, IsAttribute, bare, valued}
+use Rattle.page_text.proofs.PageParts.{not_both, same_head, same_tail, one_run, run_same}
 use Rattle.page_text.proofs.PageValues.{read_once}
 
 other_first : (q : ℕ → Bool) (b : ℕ) (bs text : Bytes) → text ≡ b ∷ bs → q b ≡ true → begins q text ≡ false → ⊥
 other_first q b bs text e h n = not_both (sym h ∙ (ap (begins q) (sym e) ∙ n))
 
-not_other : (q : ℕ) → is_other q q ≡ false
+pub not_other : (q : ℕ) → is_other q q ≡ false
 not_other q = ap not (eq-eqb q q refl)
 
 -- up to the next mark, which stands there
@@ -23,7 +21,7 @@ mark_once q a x b y e all_a all_b =
     let same = one_run (is_other q) a (q ∷ x) b (q ∷ y) e all_a (not_other q) all_b (not_other q) in
     (same.0, same_tail q q x y same.1)
 
-equals_once : (text other rest one : Bytes) → text ≡ other → IsEquals text rest → IsEquals other one → rest ≡ one
+pub equals_once : (text other rest one : Bytes) → text ≡ other → IsEquals text rest → IsEquals other one → rest ≡ one
 equals_once text other rest one e (equals {before = b} {behind = x} {more = m} u v) (equals {before = c} {behind = y} {more = n} w z) =
     let sign = run_same is_white_space text other b (61 ∷ x) c (61 ∷ y) e u w in
     (run_same is_white_space x y m rest n one (same_tail 61 61 x y sign.1) v z).1
@@ -54,7 +52,7 @@ same_attribute : (a b x y : Bytes) → a ≡ b → x ≡ y → ◌≡◌ {A = Re
 same_attribute a b x y e f = cc
 
 -- what stands behind a name is no `=` and is one
-not_valued : (rest after gap behind at : Bytes) → rest ≡ after → Space rest gap behind → sees 61 behind ≡ false → IsEquals after at → ⊥
+pub not_valued : (rest after gap behind at : Bytes) → rest ≡ after → Space rest gap behind → sees 61 behind ≡ false → IsEquals after at → ⊥
 not_valued rest after gap behind at e space n (equals {before = b} {behind = x} {more = m} u v) =
     other_first (λ c. c == 61) 61 x behind (run_same is_white_space rest after gap behind b (61 ∷ x) e space u).1 refl n
 

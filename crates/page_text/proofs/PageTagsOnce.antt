@@ -1,8 +1,8 @@
 -- Tags, comments and doctypes at the front of a text are read in one way.
-use Rattle.std.proofs.Common.{◌≡◌, ℕ, ◌<◌, Bool, true, false, List, [], ◌∷◌, ◌++◌, length, refl, ap, sym, ◌∙◌, arith, codes}
+use Rattle.std.proofs.Common.{◌≡◌, ℕ, ◌<◌, false, List, [], ◌∷◌, ◌++◌, length, refl, ap, sym, ◌∙◌, arith, codes}
 use Rattle.dom_semantics.specs.Whitespace.{is_white_space}
 use Rattle.page_text.specs.Bytes.{Bytes, is_name_byte, is_attribute_byte, lowered}
-use Rattle.page_text.specs.PageSpelling.{AreAll, Run, Space, UpTo, is_other, IsRead}
+use Rattle.page_text.specs.PageSpelling.{Run, Space}
 use Rattle.page_text.specs.PageTags.{ReadAttribute, StartTag, IsAttribute, bare, valued, AreAttributes, no_more, one_more, EndsTag, closed, slashed}
 use Rattle.page_text.specs.PageTags.{IsStartTag, start_tag, IsEndTag, end_tag, IsComment, comment, begins_comment_end, IsDoctype, doctype}
 use Rattle.page_text.proofs.PageParts.{not_both, same_head, same_tail, run_same, front_same}
@@ -21,7 +21,7 @@ no_attribute b bs text rest _ e n (bare {raw = raw} run some space k) = run_firs
 no_attribute b bs text rest _ e n (valued {raw = raw} {after_name = after} run some sign is read) = run_first b bs text raw after e n run some
 
 -- where a tag ends no attribute begins
-end_no_more : (text other rest gap here behind : Bytes) (a : ReadAttribute) → text ≡ other → EndsTag text rest → Space other gap here → IsAttribute here a behind → ⊥
+pub end_no_more : (text other rest gap here behind : Bytes) (a : ReadAttribute) → text ≡ other → EndsTag text rest → Space other gap here → IsAttribute here a behind → ⊥
 end_no_more text other rest gap here behind a e (closed {gap = blank} space) other_space is =
     no_attribute 62 rest here behind a (sym (run_same is_white_space text other blank (62 ∷ rest) gap here e space other_space).1) refl is
 end_no_more text other rest gap here behind a e (slashed {gap = blank} space) other_space is =

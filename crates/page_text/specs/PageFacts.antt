@@ -1,8 +1,7 @@
 -- Some pages, what they spell, and some first faults. The expected values are this project's own.
-use Rattle.std.specs.Prelude.{◌≡◌, List, [], ◌∷◌, ◌++◌, Some, None, codes}
+use Rattle.std.specs.Prelude.{[], ◌∷◌, ◌++◌, codes}
 use Rattle.page_text.specs.declared.faults.PageKind.TheVariants.{Unclosed, BadTag, WrongEnd}
-use Rattle.page_text.specs.Nodes.{the_document, thing_of, element_writes, text_writes}
-use Rattle.page_text.specs.PageNodes.{NoNodes, Element, Text, Comment, pieces_of}
+use Rattle.page_text.specs.PageNodes.{NoNodes, Element, Text, Comment}
 use Rattle.page_text.specs.PageGrammar.{IsDocument}
 use Rattle.page_text.specs.PageFaults.{IsFault}
 
@@ -25,3 +24,16 @@ pub record AreFaults : Type 0 where
   pub other_name : IsFault (codes "<a></b>") (Element (codes "a") [] NoNodes NoNodes) WrongEnd (codes "</b>")
   -- what has another byte inside is no end tag
   pub other_byte : IsFault (codes "<a></b x>") (Element (codes "a") [] NoNodes NoNodes) BadTag (codes "x>")
+  -- `<!` before neither a comment nor a doctype
+  pub nothing_begins : IsFault (codes "<!x") NoNodes BadTag (codes "<!x")
+  -- a doctype behind the element, and one without an end
+  pub late : IsFault (codes "<br><!doctype a>") (Element (codes "br") [] NoNodes NoNodes) BadTag (codes "<!doctype a>")
+  pub endless_doctype : IsFault (codes "<!doctype a") NoNodes Unclosed (codes "<!doctype a")
+  -- text at the top, behind white space
+  pub text : IsFault (codes " a") NoNodes BadTag (codes "a")
+  -- a second element
+  pub second : IsFault (codes "<br><br>") (Element (codes "br") [] NoNodes NoNodes) BadTag (codes "<br>")
+  -- a comment without an end
+  pub endless_comment : IsFault (codes "<!--a--") NoNodes Unclosed (codes "<!--a--")
+  -- a title without its end tag
+  pub endless_title : IsFault (codes "<title></a>") NoNodes Unclosed (codes "<title></a>")

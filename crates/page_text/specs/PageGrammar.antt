@@ -1,5 +1,5 @@
 -- The page grammar: which text spells which nodes, by one case for each form (this project's own, after HTML, The HTML syntax).
-use Rattle.std.specs.Prelude.{◌≡◌, ℕ, suc, ◌+◌, ◌<◌, ◌≤◌, Bool, true, false, not, ◌||◌, ◌&&◌, ◌==◌, List, [], ◌∷◌, length, drop, codes}
+use Rattle.std.specs.Prelude.{◌≡◌, ℕ, suc, ◌+◌, ◌<◌, ◌≤◌, Bool, true, false, cond, not, ◌||◌, ◌&&◌, ◌==◌, List, [], ◌∷◌, Option, Some, None, is_some, length, drop, codes}
 use Rattle.std.specs.Str.{chars}
 use Rattle.base_text.specs.declared.text.TheConstants.{TEXT_LIMIT}
 use Rattle.door.specs.declared.limits.TheConstants.{DEPTH_LIMIT, NODE_LIMIT}
@@ -18,16 +18,19 @@ pub record HasRoom (depth number : ℕ) : Type 0 where
 
 -- ---- elements whose content is one text
 
--- whether entities are read in it (HTML, Raw text elements and escapable raw text elements)
-pub data HoldsText : List ℕ → Bool → Type 0 where
-  script : HoldsText (codes "script") false
-  style : HoldsText (codes "style") false
-  title : HoldsText (codes "title") true
-  textarea : HoldsText (codes "textarea") true
+-- whether an element's content is one text, and whether entities are read in it (HTML, Raw text elements and escapable raw text elements)
+abbrev pub text_in : List ℕ → Option Bool
+text_in tag =
+    cond (is_named (codes "script") tag) (Some false)
+    (cond (is_named (codes "style") tag) (Some false)
+    (cond (is_named (codes "title") tag) (Some true)
+    (cond (is_named (codes "textarea") tag) (Some true) None)))
+
+abbrev pub HoldsText : List ℕ → Bool → Type 0
+HoldsText tag entities = text_in tag ≡ Some entities
 
 abbrev pub is_text_holder : List ℕ → Bool
-is_text_holder tag =
-    is_named (codes "script") tag || (is_named (codes "style") tag || (is_named (codes "title") tag || is_named (codes "textarea") tag))
+is_text_holder tag = is_some (text_in tag)
 
 -- white space, `/` and `>`
 abbrev pub is_behind_name : ℕ → Bool

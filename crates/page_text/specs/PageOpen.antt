@@ -5,10 +5,11 @@ use Rattle.page_text.specs.PageTags.{StartTag, IsStartTag, IsShort, tag_of, attr
 use Rattle.page_text.specs.PageNodes.{Nodes, NoNodes, Element, count, joined}
 use Rattle.page_text.specs.PageGrammar.{HasRoom, is_normal, IsNodes, IsTop}
 
--- an open element: the page's text from its start tag on, and its name
+-- an open element: the page's text from its start tag on, its name, and its number
 pub record Opening : Type 0 where
   pub start : Bytes
   pub name : Bytes
+  pub number : ℕ
 
 -- An element whose content is nodes begins here; its content follows.
 pub record Opens (depth number : ℕ) (text : Bytes) (t : StartTag) (inside : Bytes) : Type 0 where
@@ -17,8 +18,8 @@ pub record Opens (depth number : ℕ) (text : Bytes) (t : StartTag) (inside : By
   pub short : IsShort t
   pub normal : is_normal (tag_of t) ≡ true
 
-abbrev pub opening : Bytes → StartTag → Opening
-opening text t = record { start = text; name = t.name }
+abbrev pub opening : ℕ → Bytes → StartTag → Opening
+opening number text t = record { start = text; name = t.name; number = number }
 
 -- an element that isn't ended, with the nodes inside it so far
 abbrev pub begun : StartTag → Nodes → Nodes
@@ -31,7 +32,7 @@ pub data IsInside : List Opening → ℕ → Bytes → Nodes → List Opening �
       → IsInside outer number text nodes outer rest
   deeper : {outer open_there : List Opening} {number : ℕ} {text at inside rest : Bytes} {t : StartTag} {before nodes : Nodes}
       → IsNodes (suc (length outer)) number text before at → Opens (suc (length outer)) (number + count before) at t inside
-      → IsInside (opening at t ∷ outer) (suc (number + count before)) inside nodes open_there rest
+      → IsInside (opening (number + count before) at t ∷ outer) (suc (number + count before)) inside nodes open_there rest
       → IsInside outer number text (joined before (begun t nodes)) open_there rest
 
 -- What is open at a place of a page's text: whether the document has its element, the open elements, the innermost first, the nodes so far, and what
@@ -39,7 +40,8 @@ pub data IsInside : List Opening → ℕ → Bytes → Nodes → List Opening �
 pub data IsOpenAt (text : Bytes) : Bool → List Opening → Nodes → Bytes → Type 0 where
   at_top : {has_element : Bool} {nodes : Nodes} {rest : Bytes} → IsTop false 1 text nodes has_element rest → IsOpenAt text has_element [] nodes rest
   in_element : {open_there : List Opening} {before nodes : Nodes} {at inside rest : Bytes} {t : StartTag} → IsTop false 1 text before false at
-      → Opens 1 (suc (count before)) at t inside → IsInside (opening at t ∷ []) (suc (suc (count before))) inside nodes open_there rest
+      → Opens 1 (suc (count before)) at t inside
+      → IsInside (opening (suc (count before)) at t ∷ []) (suc (suc (count before))) inside nodes open_there rest
       → IsOpenAt text true open_there (joined before (begun t nodes)) rest
 
 -- the innermost open element

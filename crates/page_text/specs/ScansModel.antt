@@ -1,4 +1,4 @@
--- Model of the code, on which the claim of `next_piece` still rests. What stands before the first place of some kind, and what stands from there on.
+-- Model of the code, which no public clause cites. What stands before the first place of some kind, and what stands from there on.
 use Rattle.std.specs.Prelude.{ℕ, ◌<◌, Bool, not, ◌||◌, ◌&&◌, cond, ◌==◌, [], ◌∷◌, length, drop, codes}
 use Rattle.page_text.specs.Bytes.{Bytes, is_letter, is_name_byte, is_attribute_byte, begins, sees, opens}
 use Rattle.dom_semantics.specs.Whitespace.{is_white_space}

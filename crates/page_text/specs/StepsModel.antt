@@ -1,10 +1,9 @@
--- Model of the code, on which the claim of `next_piece` still rests. What stands at the front of the text that is left, and the state behind it.
+-- Model of the code, which no public clause cites. What stands at the front of the text that is left, and the state behind it.
 use Rattle.std.specs.Prelude.{◌≡◌, ℕ, ◌+◌, ◌-◌, Bool, true, false, cond, nat_le, ◌&&◌, ◌==◌, List, [], ◌∷◌, ◌++◌, Option, Some, None, Ok, Err, map, length, codes, slice_get, take, drop}
 use Rattle.std.specs.Str.{bytes_eq}
 use Rattle.door.specs.declared.values.Kind.TheVariants.{Element}
 use Rattle.door.specs.declared.limits.TheConstants.{DEPTH_LIMIT, NODE_LIMIT}
 use Rattle.door.specs.declared.values.Thing.{Thing}
-use Rattle.door.specs.declared.requests.Request.{Request}
 use Rattle.page_text.specs.declared.faults.PageKind.{PageKind}
 use Rattle.page_text.specs.declared.faults.PageKind.TheVariants.{TooLong, Unclosed, BadTag, WrongEnd, TooDeep}
 use Rattle.page_text.specs.declared.scan.Raw.{Raw}
@@ -12,7 +11,6 @@ use Rattle.page_text.specs.declared.scan.Raw.TheVariants as kinds
 use Rattle.page_text.specs.declared.scan.Stop.TheVariants.{AtMarkup, AtEndOf}
 use Rattle.page_text.specs.declared.front.Front.{Front as ReadFront}
 use Rattle.page_text.specs.declared.front.Front.TheVariants as f
-use Rattle.page_text.specs.declared.state.Open.{Open as ReadOpen}
 use Rattle.page_text.specs.declared.state.State.{State as ReadState}
 use Rattle.page_text.specs.declared.state.Step.{Step as ReadStep}
 use Rattle.page_text.specs.declared.state.Step.TheVariants as r
@@ -23,26 +21,9 @@ use Rattle.page_text.specs.ScansModel.{before, from, stops}
 use Rattle.page_text.specs.ValuesModel.{with_line_ends, read_value, spells}
 use Rattle.page_text.specs.Outcomes.{IsLess, Outcome, ◌>>=◌, checked}
 use Rattle.page_text.specs.TagsModel.{Tag, StartTag, is_empty, after_space, name_of, end_tag_at, comment_at, doctype_at}
+pub use Rattle.page_text.specs.Views.{open_of}
+pub use Rattle.page_text.specs.PageReading.{Open, State}
 use Rattle.page_text.specs.Nodes.{the_document, thing_of, text_writes, comment_writes, element_writes, is_void, raw_of, value_of, is_runnable}
-
--- an open element: the page's text from its start tag on, its name in lower case, and its number
-pub record Open : Type 0 where
-  pub start : Bytes
-  pub tag : Bytes
-  pub number : ℕ
-
--- the text that is left, the open elements, the innermost last, the next node's number, whether the
--- element has begun, and what the piece has so far
-pub record State : Type 0 where
-  pub rest : Bytes
-  pub open_elements : List Open
-  pub next : ℕ
-  pub begun : Bool
-  pub writes : List Request
-  pub external : List (List ℕ)
-
-abbrev pub open_of : ReadOpen → Open
-open_of o = record { start = o.start.now; tag = lowered o.tag.now; number = o.number }
 
 abbrev pub state_of : ReadState → State
 state_of s = record { rest = s.rest.now; open_elements = map open_of s.open_elements.items; next = s.next; begun = s.begun; writes = s.writes; external = s.external }

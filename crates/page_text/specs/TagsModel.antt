@@ -1,4 +1,4 @@
--- Model of the code, on which the claim of `next_piece` still rests. Reading tags, comments and doctypes at the front of a text.
+-- Model of the code, which no public clause cites. Reading tags, comments and doctypes at the front of a text.
 use Rattle.std.specs.Prelude.{◌≡◌, ℕ, Bool, true, false, ◌&&◌, cond, List, [], ◌∷◌, ◌++◌, Option, Some, None, Ok, Err, drop, codes}
 use Rattle.std.proofs.Common.{Vec, Global}
 use Rattle.std.specs.Borrow.{Bor}

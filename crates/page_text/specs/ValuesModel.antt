@@ -1,4 +1,4 @@
--- Model of the code, on which the claim of `next_piece` still rests. How the bytes of a text or of a value are read.
+-- Model of the code, which no public clause cites. How the bytes of a text or of a value are read.
 use Rattle.std.specs.Prelude.{◌≡◌, ℕ, Bool, true, false, cond, ◌&&◌, ◌==◌, [], ◌∷◌, ◌++◌, ◌<◌, drop, Option, Some, None, length, codes}
 use Prim.Native.Nat.{zero, suc, pred}
 use Rattle.std.specs.Borrow.{Bor}

@@ -3,9 +3,11 @@ use Rattle.std.specs.Prelude.{ℕ, Bool, List, [], Option, Some, None, map}
 use Rattle.std.proofs.Common.{Vec, Global}
 use Rattle.page_text.specs.declared.reader.Over.{Over}
 use Rattle.page_text.specs.declared.state.Open.{Open as ReadOpen}
-use Rattle.page_text.specs.Bytes.{Bytes}
-use Rattle.page_text.specs.StepsModel.{Open, open_of}
-use Rattle.page_text.specs.Page.{Progress}
+use Rattle.page_text.specs.Bytes.{Bytes, lowered}
+use Rattle.page_text.specs.PageReading.{Open, Progress}
+
+abbrev pub open_of : ReadOpen → Open
+open_of o = record { start = o.start.now; tag = lowered o.tag.now; number = o.number }
 
 abbrev pub opens_of : Option (Vec ReadOpen Global) → List Open
 opens_of None = []

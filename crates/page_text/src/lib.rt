@@ -20,5 +20,4 @@ pub use faults::{PageFault, PageKind};
 pub use pieces::Piece;
 pub use printing::{a_node_is_printed_whole, print};
 pub use reader::{PageReader, a_page_has_one_reading};
-pub use tags::tags_are_spelled_so;
 pub use writes::Requests;

@@ -3,7 +3,7 @@
 ghost use Rattle.std.specs.Prelude.{◌≡◌, IfOk};
 ghost use Rattle.page_text.specs.Outcomes.{Answers};
 ghost use Rattle.page_text.specs.StepsModel as steps;
-ghost use Rattle.page_text.specs.Pieces as spec;
+ghost use Rattle.page_text.specs.PiecesModel as spec;
 
 use crate::faults::Failed;
 use crate::state::{State, Step};

@@ -1,9 +1,10 @@
 //! Reading a page piece by piece.
 
-ghost use Rattle.std.specs.Prelude.{◌≡◌, ◌≤◌, ◌-◌, ℕ, List, None, Some, Ok, Err, length, map, IfOk, IfErr, MatchOption};
+ghost use Rattle.std.specs.Prelude.{◌≡◌, ◌≤◌, ◌-◌, ◌⊎◌, ℕ, List, [], None, Some, Ok, Err, length, map, IfOk, IfErr, MatchOption};
 ghost use Rattle.door.specs.declared.limits.TheConstants.{PAGE_LIMIT};
-ghost use Rattle.page_text.specs.Page as spec;
-ghost use Rattle.page_text.specs.Reads as reads;
+ghost use Rattle.page_text.specs.PageFaults as grammar;
+ghost use Rattle.page_text.specs.PageModel as model;
+ghost use Rattle.page_text.specs.PageReading as spec;
 ghost use Rattle.page_text.specs.StepsModel as steps;
 ghost use Rattle.page_text.specs.Views.{opens_of};
 
@@ -37,7 +38,7 @@ pub struct PageReader<'a> {
 }
 
 impl<'a> Model for PageReader<'a> {
-    ghost use Rattle.page_text.specs.Page.{Progress};
+    ghost use Rattle.page_text.specs.PageReading.{Progress};
     ghost use Rattle.page_text.specs.Views.{opens_of, progress_of};
 
     ghost Value = { Progress };
@@ -47,9 +48,9 @@ impl<'a> Model for PageReader<'a> {
 
 /// The page's text, or the fault of its length or its bytes.
 fn text_of_page(bytes: &[u8]) -> Result<&str, PageFault>
-    ensures ok { IfOk result (λ text. (text.now ≡ bytes.now) × (spec.checked_page bytes.now ≡ Over.No)) }
+    ensures ok { IfOk result (λ text. (text.now ≡ bytes.now) × (model.checked_page bytes.now ≡ Over.No)) }
     ensures len { IfOk result (λ text. length bytes.now ≤ PAGE_LIMIT) }
-    ensures err { IfErr result (λ f. spec.checked_page bytes.now ≡ Over.Refused f) }
+    ensures err { IfErr result (λ f. model.checked_page bytes.now ≡ Over.Refused f) }
 {
     if bytes.len() > PAGE_LIMIT {
         return Err(PageFault {
@@ -68,7 +69,7 @@ fn text_of_page(bytes: &[u8]) -> Result<&str, PageFault>
 
 /// The text without its byte order mark.
 fn without_mark(text: &str) -> &str
-    ensures { result.now ≡ spec.without_mark text.now }
+    ensures { result.now ≡ model.without_mark text.now }
 {
     match after(text, "\u{feff}") {
         Some(rest) => rest,
@@ -86,7 +87,7 @@ fn copied<'a>(alloc: Global, open_elements: &Option<Vec<Open<'a>>>) -> Mem<Vec<O
 }
 
 fn over_of(script: &Option<Text>) -> Over
-    ensures { result ≡ spec.over_of script.now }
+    ensures { result ≡ model.over_of script.now }
 {
     match script {
         None => Over::Ended,
@@ -95,7 +96,7 @@ fn over_of(script: &Option<Text>) -> Over
 }
 
 fn fault_at(size: u32, rest: usize, kind: PageKind) -> PageFault
-    ensures { result ≡ spec.fault_at (size - rest) kind }
+    ensures { result ≡ model.fault_at (size - rest) kind }
 {
     PageFault {
         at: (size as usize).saturating_sub(rest) as u32,
@@ -106,7 +107,13 @@ fn fault_at(size: u32, rest: usize, kind: PageKind) -> PageFault
 impl<'a> PageReader<'a> {
     /// Before the page of these bytes is read. It takes no memory.
     pub fn new(bytes: &'a [u8]) -> PageReader<'a>
-        ensures { result ≡ spec.first bytes.now }
+        ensures { spec.IsAt bytes.now [] result }
+    {
+        PageReader::first(bytes)
+    }
+
+    fn first(bytes: &'a [u8]) -> PageReader<'a>
+        ensures { result ≡ model.first bytes.now }
     {
         match text_of_page(bytes) {
             Ok(text) => PageReader::before(bytes.len() as u32, without_mark(text), Over::No),
@@ -115,7 +122,7 @@ impl<'a> PageReader<'a> {
     }
 
     fn before(size: u32, rest: &'a str, over: Over) -> PageReader<'a>
-        ensures { result ≡ record { size = size; state = spec.start rest.now; over = over } }
+        ensures { result ≡ record { size = size; state = model.start rest.now; over = over } }
     {
         PageReader {
             size,
@@ -141,8 +148,8 @@ impl<'a> PageReader<'a> {
     }
 
     fn keep(&mut self, script: Option<Text>, state: State<'a>) -> Piece
-        ensures piece { result ≡ spec.piece_of script (steps.state_of state.entry) }
-        ensures progress { self.new ≡ spec.behind self.old script (steps.state_of state.entry) }
+        ensures piece { result ≡ model.piece_of script (steps.state_of state.entry) }
+        ensures progress { self.new ≡ model.behind self.old script (steps.state_of state.entry) }
     {
         let State {
             rest,
@@ -172,26 +179,23 @@ impl<'a> PageReader<'a> {
 
     /// The next piece of the page; none after the last one.
     ///
-    /// A fault is the page's first; it comes exactly where the bytes are no page, and again
-    /// afterwards. Where no memory was found, the reader is as before. Behind the last piece and
-    /// behind a fault no memory is taken.
+    /// A fault is the page's first; it comes exactly where the bytes are no page, behind the pieces
+    /// that are whole before it, and again afterwards. Where no memory was found, the reader is as
+    /// before. Behind the last piece and behind a fault no memory is taken.
     pub fn next_piece(&mut self, alloc: Global) -> Result<Option<Piece>, OrMemory<PageFault>>
-        ensures ok { IfOk result (λ o. spec.Goes self.old.over self.old o self.new) }
-        ensures err { IfErr result (λ e. spec.Refuses self.old e self.new) }
-        ensures only { (pieces : List Piece) → spec.Pieces self.old pieces → reads.AreRead pieces self.new result }
-        ensures read { IfOk result (λ o. (pieces : List Piece) → spec.Pieces self.new pieces → spec.Pieces self.old (reads.with_answer o pieces)) }
-        ensures fault { (f : PageFault) → spec.Faulty self.old f → reads.IsMet f self.new result }
-        ensures faulty { IfOk result (λ o. (f : PageFault) → spec.Faulty self.new f → spec.Faulty self.old f) }
-        ensures met { IfErr result (λ e. reads.IsFault self.old e) }
-        ensures settled { reads.IsSettled self.old.over result }
+        ensures ok { IfOk result (λ o. (bytes : List ℕ) (done : List Piece) → spec.IsAt bytes done self.old → spec.Goes bytes done o self.new) }
+        ensures first { IfErr result (λ e. (bytes : List ℕ) (done : List Piece) → spec.IsAt bytes done self.old → spec.Refuses bytes done self.old e self.new) }
+        ensures only { (bytes : List ℕ) (done : List Piece) → spec.IsAt bytes done self.old → (pieces : List Piece) → grammar.IsPage bytes pieces → spec.IsRead pieces done result }
+        ensures fault { (bytes : List ℕ) (done : List Piece) → spec.IsAt bytes done self.old → (pieces : List Piece) (f : PageFault) → grammar.IsFaulty bytes pieces f → spec.IsMet pieces f done result }
+        ensures settled { spec.IsSettled self.old.over result }
     {
         self.advance(alloc)
     }
 
     fn advance(&mut self, alloc: Global) -> Result<Option<Piece>, OrMemory<PageFault>>
-        ensures ok { IfOk result (λ o. spec.Goes self.old.over self.old o self.new) }
-        ensures err { IfErr result (λ e. spec.Refuses self.old e self.new) }
-        ensures settled { reads.IsSettled self.old.over result }
+        ensures ok { IfOk result (λ o. model.Goes self.old.over self.old o self.new) }
+        ensures err { IfErr result (λ e. model.Refuses self.old e self.new) }
+        ensures settled { spec.IsSettled self.old.over result }
     {
         match self.over {
             Over::Ended => return Ok(None),
@@ -211,9 +215,10 @@ impl<'a> PageReader<'a> {
     }
 }
 
-/// A page has one list of pieces, or one fault, and not both.
+/// Bytes are a page of one list of pieces, or have one fault behind one list of pieces, and not both.
 pub fn a_page_has_one_reading()
-    ensures pieces { (bytes : List ℕ) (pieces others : List Piece) → spec.IsPage bytes pieces → spec.IsPage bytes others → pieces ≡ others }
-    ensures fault { (bytes : List ℕ) (f g : PageFault) → spec.IsFaulty bytes f → spec.IsFaulty bytes g → f ≡ g }
-    ensures either { (bytes : List ℕ) (pieces : List Piece) (f : PageFault) → spec.IsPage bytes pieces → spec.IsFaulty bytes f → ⊥ }
+    ensures some { (bytes : List ℕ) → ((pieces : List Piece) × grammar.IsPage bytes pieces) ⊎ ((pieces : List Piece) × (f : PageFault) × grammar.IsFaulty bytes pieces f) }
+    ensures pieces { (bytes : List ℕ) (pieces others : List Piece) → grammar.IsPage bytes pieces → grammar.IsPage bytes others → pieces ≡ others }
+    ensures fault { (bytes : List ℕ) (pieces others : List Piece) (f g : PageFault) → grammar.IsFaulty bytes pieces f → grammar.IsFaulty bytes others g → (pieces ≡ others) × (f ≡ g) }
+    ensures either { (bytes : List ℕ) (pieces others : List Piece) (f : PageFault) → grammar.IsPage bytes pieces → grammar.IsFaulty bytes others f → ⊥ }
 {}

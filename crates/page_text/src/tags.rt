@@ -9,7 +9,6 @@ ghost use Rattle.dom_semantics.specs.Whitespace.{is_white_space};
 ghost use Rattle.page_text.specs.Outcomes.{Answers, Gives, IsLess, IsRest, checked};
 ghost use Rattle.page_text.specs.ScansModel.{before, from, stops};
 ghost use Rattle.page_text.specs.declared.tags.Attribute.{Attribute as ReadAttribute};
-ghost use Rattle.page_text.specs.Grammar as spelled;
 ghost use Rattle.page_text.specs.ValuesModel.{spells};
 ghost use Rattle.page_text.specs.TagsModel as spec;
 
@@ -333,16 +332,3 @@ pub(crate) fn doctype<'a>(text: &'a str) -> Result<&'a str, Failed<'a>>
         None => Err(Failed::Fault(PageKind::Unclosed, text)),
     }
 }
-
-/// What is read at a place is spelled so there, and what is spelled so is read: an attribute, the
-/// attributes of a tag, an end tag and a comment, whatever follows them.
-pub fn tags_are_spelled_so()
-    ensures attribute { (start text : List ℕ) (a : ReadAttribute) (rest : List ℕ) → spec.attribute_at start text ≡ Ok (a, rest) → spelled.IsAttribute text a rest }
-    ensures attribute_again { (start text : List ℕ) (a : ReadAttribute) (rest : List ℕ) → spelled.IsAttribute text a rest → spec.attribute_at start text ≡ Ok (a, rest) }
-    ensures attributes { (start text : List ℕ) (found : List ReadAttribute) (rest : List ℕ) → spec.Attributes start [] text (Ok (found, rest)) → spelled.AreCounted text found rest }
-    ensures attributes_again { (start text : List ℕ) (found : List ReadAttribute) (rest : List ℕ) → spelled.AreCounted text found rest → spec.Attributes start [] text (Ok (found, rest)) }
-    ensures end_tag { (text name rest : List ℕ) → spec.end_tag_at text ≡ Ok (name, rest) → spelled.IsEndTag text name rest }
-    ensures end_tag_again { (text name rest : List ℕ) → spelled.IsEndTag text name rest → spec.end_tag_at text ≡ Ok (name, rest) }
-    ensures comment { (text content rest : List ℕ) → spells (codes "<!--") text ≡ true → spec.comment_at text ≡ Ok (content, rest) → spelled.IsComment text content rest }
-    ensures comment_again { (text content rest : List ℕ) → spelled.IsComment text content rest → spec.comment_at text ≡ Ok (content, rest) }
-{}

@@ -1,6 +1,6 @@
 use Rattle.std.proofs.Common.{Err}
 use Rattle.page_text.specs.StepsModel.{Steps, state_of, step_of}
-use Rattle.page_text.specs.Pieces.{PieceFrom, end_of, past_step, at_script, at_end, at_fault}
+use Rattle.page_text.specs.PiecesModel.{PieceFrom, end_of, past_step, at_script, at_end, at_fault}
 use Rattle.page_text.proofs.Reading.{passed_on}
 use Rattle.page_text.proofs.pieces.read_piece.Goals as goal
 

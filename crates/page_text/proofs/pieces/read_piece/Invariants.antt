@@ -1,7 +1,7 @@
 use Rattle.std.proofs.Common.{length}
 use Rattle.page_text.specs.Outcomes.{Outcome}
 use Rattle.page_text.specs.StepsModel.{state_of}
-use Rattle.page_text.specs.Pieces.{PieceEnd, PieceFrom}
+use Rattle.page_text.specs.PiecesModel.{PieceEnd, PieceFrom}
 use Rattle.page_text.proofs.pieces.read_piece.Given as goal
 
 abbrev pub invariant-loop-failed : goal.invariant-loop-failed

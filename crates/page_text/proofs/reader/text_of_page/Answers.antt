@@ -5,7 +5,7 @@ use Rattle.std.specs.Str.{is_utf8}
 use Rattle.page_text.specs.declared.reader.Over.TheVariants.{Refused}
 use Rattle.page_text.specs.declared.faults.PageKind.TheVariants.{NotUtf8}
 use Rattle.door.specs.declared.limits.TheConstants.{PAGE_LIMIT}
-use Rattle.page_text.specs.Page.{fault_at}
+use Rattle.page_text.specs.PageModel.{fault_at}
 use Rattle.page_text.proofs.reader.text_of_page.Goals as goal
 
 pub returns-in-Ok-clause-ok : goal.returns-in-Ok-clause-ok

@@ -1,17 +1,14 @@
-use Rattle.page_text.proofs.Once.{only_of, fault_of, read_of, faulty_of, met_of}
+use Rattle.page_text.proofs.PageReadings.{all_goes, all_refuses, only_of, fault_of}
 use Rattle.page_text.proofs.reader.PageReader.next_piece.Goals as goal
 
-pub returns-clause-only : goal.returns-clause-only
-returns-clause-only c = only_of _ _ c.advance.result c.advance.ensures.ok c.advance.ensures.err
+pub returns-clause-ok : goal.returns-clause-ok
+returns-clause-ok c = all_goes _ _ c.advance.result c.advance.ensures.ok
 
-pub returns-clause-read : goal.returns-clause-read
-returns-clause-read c = read_of _ _ c.advance.result c.advance.ensures.ok
+pub returns-clause-first : goal.returns-clause-first
+returns-clause-first c = all_refuses _ _ c.advance.result c.advance.ensures.err
+
+pub returns-clause-only : goal.returns-clause-only
+returns-clause-only c = λ bytes done stands. only_of bytes done _ stands _ c.advance.result c.advance.ensures.ok c.advance.ensures.err
 
 pub returns-clause-fault : goal.returns-clause-fault
-returns-clause-fault c = fault_of _ _ c.advance.result c.advance.ensures.ok c.advance.ensures.err
-
-pub returns-clause-faulty : goal.returns-clause-faulty
-returns-clause-faulty c = faulty_of _ _ c.advance.result c.advance.ensures.ok
-
-pub returns-clause-met : goal.returns-clause-met
-returns-clause-met c = met_of _ _ c.advance.result c.advance.ensures.err
+returns-clause-fault c = λ bytes done stands. fault_of bytes done _ stands _ c.advance.result c.advance.ensures.ok c.advance.ensures.err

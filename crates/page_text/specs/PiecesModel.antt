@@ -1,4 +1,4 @@
--- A page as pieces, each up to a script that is run.
+-- Model of the code, which no public clause cites. A page as pieces, each up to a script that is run.
 use Rattle.std.specs.Prelude.{ℕ, List, Option, Some, None, Ok, Err}
 use Rattle.page_text.specs.declared.faults.PageKind.{PageKind}
 use Rattle.page_text.specs.declared.state.State.{State as ReadState}

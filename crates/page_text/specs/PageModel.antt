@@ -1,4 +1,4 @@
--- The page grammar as a reader's progress (this project's own).
+-- Model of the code, which no public clause cites. The progress of a reader.
 use Rattle.std.specs.Prelude.{◌≡◌, ℕ, ◌-◌, false, cond, nat_lt, List, [], ◌∷◌, Option, Some, None, Ok, Err, length, drop}
 use Rattle.std.specs.Str.{is_utf8}
 use Rattle.std.specs.Str.Lossy.{utf8_valid_len}
@@ -13,14 +13,8 @@ use Rattle.page_text.specs.declared.reader.Over.TheVariants.{No, Ended, Refused}
 use Rattle.door.specs.declared.limits.TheConstants.{PAGE_LIMIT}
 use Rattle.page_text.specs.Bytes.{Bytes}
 use Rattle.page_text.specs.ValuesModel.{spells}
-use Rattle.page_text.specs.StepsModel.{State}
-use Rattle.page_text.specs.Pieces.{PieceFrom}
-
--- how far a page is read: its length, the state, and whether it is over
-pub record Progress : Type 0 where
-  pub size : ℕ
-  pub state : State
-  pub over : Over
+use Rattle.page_text.specs.PageReading.{State, Progress}
+use Rattle.page_text.specs.PiecesModel.{PieceFrom}
 
 -- a byte order mark is dropped (Encoding, UTF-8 decode)
 abbrev pub without_mark : Bytes → Bytes
@@ -102,21 +96,3 @@ Stops (Refused g) p f = f ≡ g
 abbrev pub Refuses : Progress → OrMemory PageFault → Progress → Type 0
 Refuses p (Fault f) q = Stops p.over p f × (q ≡ record p { over = Refused f })
 Refuses p NoMemory q = q ≡ p
-
--- the pieces that are still to come
-pub data Pieces : Progress → List Piece → Type 0 where
-  no_more : (p : Progress) → p.over ≡ Ended → Pieces p []
-  next : (p q : Progress) (piece : Piece) (pieces : List Piece) → p.over ≡ No → IsNext p piece q → Pieces q pieces → Pieces p (piece ∷ pieces)
-
--- the fault that is still to come
-pub data Faulty : Progress → PageFault → Type 0 where
-  refused : (p : Progress) (f : PageFault) → p.over ≡ Refused f → Faulty p f
-  here : (p : Progress) (f : PageFault) → p.over ≡ No → IsStuck p f → Faulty p f
-  later : (p q : Progress) (piece : Piece) (f : PageFault) → p.over ≡ No → IsNext p piece q → Faulty q f → Faulty p f
-
--- the bytes are a page of these pieces; they are none, by this fault
-abbrev pub IsPage : Bytes → List Piece → Type 0
-IsPage bytes pieces = Pieces (first bytes) pieces
-
-abbrev pub IsFaulty : Bytes → PageFault → Type 0
-IsFaulty bytes f = Faulty (first bytes) f
