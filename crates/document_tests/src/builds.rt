@@ -2,15 +2,13 @@
 
 use base_text::{NoMemory, OrMemory, Text};
 use dom_tree::{NodeForm, NodeId, Tree};
-use door::{Actor, Member, Request, Value};
+use door::{HOST, Member, Request, Value};
 use page_text::{PageFault, PageKind, PageReader, Piece, print};
 use std::alloc::{AllocError, Global};
 use std::process::Abort;
 use std::test::Fail;
 
-/// The maker of all nodes.
-const HOST: Actor = Actor(0);
-
+/// The host makes a node.
 pub(crate) fn make(rt: &impl Abort, tree: &mut Tree, form: NodeForm) -> Result<(), Fail> {
     assert!(rt; tree.count() < 1_000_000);
     tree.create(HOST, form)?;
@@ -80,11 +78,9 @@ fn build(rt: &impl Abort, tree: &mut Tree, request: &Request) -> Result<bool, Fa
     Ok(true)
 }
 
-/// Builds a piece's nodes. `[src]` stands for each external script, and behind the document so far
-/// `{script}` for the one that is run.
-fn show_piece(
+/// Does what the requests of a piece say.
+fn build_piece(
     rt: &impl Abort,
-    alloc: Global,
     out: &mut String,
     tree: &mut Tree,
     piece: &Piece,
@@ -94,16 +90,32 @@ fn show_piece(
             out.push_str("no request that builds")?;
         }
     }
+    Ok(())
+}
+
+/// Adds a script's source or text between brackets of this kind.
+fn show_script(out: &mut String, open: char, text: &str, close: char) -> Result<(), AllocError> {
+    out.push(open)?;
+    out.push_str(text)?;
+    out.push(close)
+}
+
+/// Builds a piece's nodes. `[src]` stands for each external script, and behind the document so far
+/// `{script}` for the one that is run.
+fn show_piece(
+    rt: &impl Abort,
+    alloc: Global,
+    out: &mut String,
+    tree: &mut Tree,
+    piece: &Piece,
+) -> Result<(), Fail> {
+    build_piece(rt, out, tree, piece)?;
     for source in piece.external.as_slice() {
-        out.push('[')?;
-        out.push_str(source.as_str())?;
-        out.push(']')?;
+        show_script(out, '[', source.as_str(), ']')?;
     }
     show(rt, alloc, out, tree, 0)?;
     if let Some(script) = &piece.script {
-        out.push('{')?;
-        out.push_str(script.as_str())?;
-        out.push('}')?;
+        show_script(out, '{', script.as_str(), '}')?;
     }
     Ok(())
 }

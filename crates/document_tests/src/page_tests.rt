@@ -159,56 +159,66 @@ fn pages_of_tags(rt: HostRuntime) -> Result<(), Fail> {
     Ok(())
 }
 
+/// Pages with scripts, and the pieces that they are read as.
+const WITH_SCRIPTS: &[(&str, &str)] = &[
+    ("<script></script>", "<script></script>{}<script></script>"),
+    (
+        "<p><script>a\r\n</scriptx></b></SCRIPT\n>b</p>",
+        "<p><script>a\n</scriptx></b></script></p>{a\n</scriptx></b>}<p><script>a\n</scriptx></b></script>b</p>",
+    ),
+    (
+        "<p><script>&lt;&</script></p>",
+        "<p><script>&lt;&</script></p>{&lt;&}<p><script>&lt;&</script></p>",
+    ),
+    (
+        "<p><script src=x>a</script>b</p>",
+        "[x]<p><script src=\"x\">a</script>b</p>",
+    ),
+    (
+        "<p><script src></script><script SRC=b></script></p>",
+        "[][b]<p><script src=\"\"></script><script src=\"b\"></script></p>",
+    ),
+    (
+        "<p><script>1</script><script>2</script></p>",
+        "<p><script>1</script></p>{1}<p><script>1</script><script>2</script></p>{2}<p><script>1</script><script>2</script></p>",
+    ),
+    (
+        "<p><script type=''>1</script></p>",
+        "<p><script type=\"\">1</script></p>{1}<p><script type=\"\">1</script></p>",
+    ),
+    (
+        "<p><script type=TEXT/javascript>1</script></p>",
+        "<p><script type=\"TEXT/javascript\">1</script></p>{1}<p><script type=\"TEXT/javascript\">1</script></p>",
+    ),
+    (
+        "<p><script type=Application/JavaScript>1</script></p>",
+        "<p><script type=\"Application/JavaScript\">1</script></p>{1}<p><script type=\"Application/JavaScript\">1</script></p>",
+    ),
+    (
+        "<script type=module>2</script>",
+        "<script type=\"module\">2</script>",
+    ),
+    (
+        "<script type=' text/javascript'>2</script>",
+        "<script type=\" text/javascript\">2</script>",
+    ),
+    (
+        "<p>a<script>1</script>b<!--c--></p> <!--d-->",
+        "<p>a<script>1</script></p>{1}<p>a<script>1</script>b<!--c--></p><!--d-->",
+    ),
+    (
+        "<p>a<script src=x></script>b<script>1</script>c</p>",
+        "[x]<p>a<script src=\"x\"></script>b<script>1</script></p>{1}<p>a<script src=\"x\"></script>b<script>1</script>c</p>",
+    ),
+    (
+        "<p><script>1</script><q>",
+        "<p><script>1</script></p>{1}Unclosed 21",
+    ),
+];
+
 #[test]
 fn pages_of_scripts(rt: HostRuntime) -> Result<(), Fail> {
-    const ROWS: &[(&str, &str)] = &[
-        ("<script></script>", "<script></script>{}<script></script>"),
-        (
-            "<p><script>a\r\n</scriptx></b></SCRIPT\n>b</p>",
-            "<p><script>a\n</scriptx></b></script></p>{a\n</scriptx></b>}<p><script>a\n</scriptx></b></script>b</p>",
-        ),
-        (
-            "<p><script>&lt;&</script></p>",
-            "<p><script>&lt;&</script></p>{&lt;&}<p><script>&lt;&</script></p>",
-        ),
-        (
-            "<p><script src=x>a</script>b</p>",
-            "[x]<p><script src=\"x\">a</script>b</p>",
-        ),
-        (
-            "<p><script src></script><script SRC=b></script></p>",
-            "[][b]<p><script src=\"\"></script><script src=\"b\"></script></p>",
-        ),
-        (
-            "<p><script type=''>1</script><script type=TEXT/javascript>2</script></p>",
-            "<p><script type=\"\">1</script></p>{1}<p><script type=\"\">1</script><script type=\"TEXT/javascript\">2</script></p>{2}<p><script type=\"\">1</script><script type=\"TEXT/javascript\">2</script></p>",
-        ),
-        (
-            "<p><script type=Application/JavaScript>1</script></p>",
-            "<p><script type=\"Application/JavaScript\">1</script></p>{1}<p><script type=\"Application/JavaScript\">1</script></p>",
-        ),
-        (
-            "<script type=module>2</script>",
-            "<script type=\"module\">2</script>",
-        ),
-        (
-            "<script type=' text/javascript'>2</script>",
-            "<script type=\" text/javascript\">2</script>",
-        ),
-        (
-            "<p>a<script>1</script>b<!--c--></p> <!--d-->",
-            "<p>a<script>1</script></p>{1}<p>a<script>1</script>b<!--c--></p><!--d-->",
-        ),
-        (
-            "<p>a<script src=x></script>b<script>1</script>c</p>",
-            "[x]<p>a<script src=\"x\"></script>b<script>1</script></p>{1}<p>a<script src=\"x\"></script>b<script>1</script>c</p>",
-        ),
-        (
-            "<p><script>1</script><q>",
-            "<p><script>1</script></p>{1}Unclosed 21",
-        ),
-    ];
-    assert_eq!(rt; first_wrong(&rt, rt.alloc(), ROWS)?, "no page");
+    assert_eq!(rt; first_wrong(&rt, rt.alloc(), WITH_SCRIPTS)?, "no page");
     Ok(())
 }
 

@@ -3,7 +3,7 @@
 use crate::builds::{append, make, set, show};
 use base_text::Text;
 use dom_tree::{NodeForm, Tree};
-use std::alloc::Global;
+use std::alloc::{AllocError, Global};
 use std::process::Abort;
 use std::test::Fail;
 
@@ -166,21 +166,34 @@ fn nodes_without_a_parent_are_printed(rt: HostRuntime) -> Result<(), Fail> {
     Ok(())
 }
 
+fn push_repeated(out: &mut String, part: &str, count: usize) -> Result<(), AllocError> {
+    for _ in 0..count {
+        out.push_str(part)?;
+    }
+    Ok(())
+}
+
+/// Nodes 1 to 257, each but the first in the one before: elements, and a text in the last of them.
+fn chain(rt: &impl Abort, alloc: Global) -> Result<Tree, Fail> {
+    let mut tree = Tree::new(alloc)?;
+    element(rt, alloc, &mut tree, "i")?;
+    for parent in 1..256 {
+        element(rt, alloc, &mut tree, "i")?;
+        append(rt, &mut tree, parent, parent + 1)?;
+    }
+    text(rt, alloc, &mut tree, "&")?;
+    append(rt, &mut tree, 256, 257)?;
+    Ok(tree)
+}
+
 #[test]
 fn a_tree_of_all_levels_is_printed_whole(rt: HostRuntime) -> Result<(), Fail> {
     let alloc = rt.alloc();
-    let mut tree = Tree::new(alloc)?;
+    let tree = chain(&rt, alloc)?;
     let mut want = String::new(alloc);
-    for _ in 0..256 {
-        element(&rt, alloc, &mut tree, "i")?;
-        want.push_str("<i>")?;
-    }
-    text(&rt, alloc, &mut tree, "&")?;
+    push_repeated(&mut want, "<i>", 256)?;
     want.push_str("&amp;")?;
-    for parent in 1..257 {
-        append(&rt, &mut tree, parent, parent + 1)?;
-        want.push_str("</i>")?;
-    }
+    push_repeated(&mut want, "</i>", 256)?;
     let mut got = String::new(alloc);
     show(&rt, alloc, &mut got, &tree, 1)?;
     assert_eq!(rt; got.as_str(), want.as_str());

@@ -2,10 +2,11 @@
 
 use crate::tree_steps::Form::{Element, Str};
 use crate::tree_steps::Step::{Insert, Make, Set};
-use crate::tree_steps::{PAGE, Step, known, run};
+use crate::tree_steps::{Step, known, run};
 use base_text::Text;
 use dom_query::{SelectorFault, by_id, by_tag, parse_selector, select};
 use dom_tree::{NodeId, Tree};
+use door::PAGE;
 use std::alloc::Global;
 use std::process::Abort;
 use std::test::Fail;
@@ -90,7 +91,8 @@ fn grown(rt: &impl Abort, alloc: Global) -> Result<Tree, Fail> {
 
 /// Whether nodes have these numbers, in this order.
 fn are(nodes: &[NodeId], numbers: &[u32]) -> bool {
-    nodes.len() == numbers.len() && nodes.iter().zip(numbers).all(|(node, n)| node.0 == *n)
+    let mut pairs = nodes.iter().zip(numbers);
+    nodes.len() == numbers.len() && pairs.all(|(node, number)| node.0 == *number)
 }
 
 /// Whether a selector lists these nodes below a root; none where it isn't read, or no memory is found.
@@ -108,66 +110,67 @@ fn lists(
     Some(are(&found, want))
 }
 
+/// Root, selector, what it lists.
+const LISTED: &[(u32, &str, &[u32])] = &[
+    (
+        0,
+        "*",
+        &[
+            1, 2, 3, 4, 18, 5, 6, 7, 8, 9, 10, 11, 12, 13, 14, 15, 16, 17,
+        ],
+    ),
+    (0, "html", &[1]),
+    (0, "div", &[5, 15]),
+    (0, "DIV", &[5, 15]),
+    (0, "über", &[18]),
+    (0, "#a", &[5]),
+    (0, "#A", &[]),
+    (0, "#s1", &[7, 17]),
+    (0, "#list", &[18, 9]),
+    (0, ".box", &[5, 14, 15]),
+    (0, ".Box", &[]),
+    (0, ".item", &[10, 11]),
+    (0, ".ite", &[]),
+    (0, ".last", &[15]),
+    (0, ".grün", &[18]),
+    (0, ".box,.grün", &[18, 5, 14, 15]),
+    (0, "p.note.warn", &[8]),
+    (0, "p.warn.note", &[8]),
+    (0, ".x.y", &[7]),
+    (0, "*.box", &[5, 14, 15]),
+    (0, "[id]", &[4, 18, 5, 7, 9, 17]),
+    (0, "[ID]", &[4, 18, 5, 7, 9, 17]),
+    (0, "[data-n]", &[10, 11, 13]),
+    (0, "[data-n=1]", &[10]),
+    (0, "[data-n='1']", &[10]),
+    (0, "[data-n=\"10\"]", &[13]),
+    (0, "[title='a b']", &[14]),
+    (0, "[title='']", &[16]),
+    (0, "[lang=EN]", &[]),
+    (0, "div span", &[7, 17]),
+    (0, "div \t\n span", &[7, 17]),
+    (0, "div div", &[]),
+    (0, ".box .box", &[15]),
+    (0, "html body section span", &[17]),
+    (0, "p span,ul span", &[7, 12]),
+    (0, " .warn , li ", &[8, 10, 11, 13]),
+    (0, "span,span", &[7, 12, 17]),
+    (0, "#list li[data-n='2'] span.x", &[12]),
+    (0, "ul *", &[10, 11, 12, 13]),
+    (0, "#loose", &[]),
+    (9, "body li", &[10, 11, 13]),
+    (5, ".box", &[]),
+    (5, "div p", &[6, 8]),
+    (15, "div div *", &[]),
+    (15, "section *", &[16, 17]),
+    (19, "p", &[20]),
+    (19, "body p", &[]),
+];
+
 #[test]
 fn selectors_list_elements_in_tree_order(rt: HostRuntime) -> Result<(), Fail> {
-    // Root, selector, what it lists.
-    const ROWS: &[(u32, &str, &[u32])] = &[
-        (
-            0,
-            "*",
-            &[
-                1, 2, 3, 4, 18, 5, 6, 7, 8, 9, 10, 11, 12, 13, 14, 15, 16, 17,
-            ],
-        ),
-        (0, "html", &[1]),
-        (0, "div", &[5, 15]),
-        (0, "DIV", &[5, 15]),
-        (0, "über", &[18]),
-        (0, "#a", &[5]),
-        (0, "#A", &[]),
-        (0, "#s1", &[7, 17]),
-        (0, "#list", &[18, 9]),
-        (0, ".box", &[5, 14, 15]),
-        (0, ".Box", &[]),
-        (0, ".item", &[10, 11]),
-        (0, ".ite", &[]),
-        (0, ".last", &[15]),
-        (0, ".grün", &[18]),
-        (0, ".box,.grün", &[18, 5, 14, 15]),
-        (0, "p.note.warn", &[8]),
-        (0, "p.warn.note", &[8]),
-        (0, ".x.y", &[7]),
-        (0, "*.box", &[5, 14, 15]),
-        (0, "[id]", &[4, 18, 5, 7, 9, 17]),
-        (0, "[ID]", &[4, 18, 5, 7, 9, 17]),
-        (0, "[data-n]", &[10, 11, 13]),
-        (0, "[data-n=1]", &[10]),
-        (0, "[data-n='1']", &[10]),
-        (0, "[data-n=\"10\"]", &[13]),
-        (0, "[title='a b']", &[14]),
-        (0, "[title='']", &[16]),
-        (0, "[lang=EN]", &[]),
-        (0, "div span", &[7, 17]),
-        (0, "div \t\n span", &[7, 17]),
-        (0, "div div", &[]),
-        (0, ".box .box", &[15]),
-        (0, "html body section span", &[17]),
-        (0, "p span,ul span", &[7, 12]),
-        (0, " .warn , li ", &[8, 10, 11, 13]),
-        (0, "span,span", &[7, 12, 17]),
-        (0, "#list li[data-n='2'] span.x", &[12]),
-        (0, "ul *", &[10, 11, 12, 13]),
-        (0, "#loose", &[]),
-        (9, "body li", &[10, 11, 13]),
-        (5, ".box", &[]),
-        (5, "div p", &[6, 8]),
-        (15, "div div *", &[]),
-        (15, "section *", &[16, 17]),
-        (19, "p", &[20]),
-        (19, "body p", &[]),
-    ];
     let tree = grown(&rt, rt.alloc())?;
-    for (root, selector, want) in ROWS {
+    for (root, selector, want) in LISTED {
         let right = lists(&rt, rt.alloc(), &tree, *root, selector, want);
         assert!(rt; right == Some(true), "{selector} in {root}");
     }
@@ -175,8 +178,8 @@ fn selectors_list_elements_in_tree_order(rt: HostRuntime) -> Result<(), Fail> {
 }
 
 /// Where it is sure that a text spells no selector; none where it spells one, or no memory is found.
-fn refused_at(alloc: Global, s: &str) -> Option<u32> {
-    match parse_selector(alloc, &Text::of(alloc, s).ok()?) {
+fn refused_at(alloc: Global, text: &str) -> Option<u32> {
+    match parse_selector(alloc, &Text::of(alloc, text).ok()?) {
         Err(SelectorFault::BadSelector { at }) => Some(at),
         _ => None,
     }

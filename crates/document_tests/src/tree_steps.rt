@@ -5,14 +5,10 @@ ghost use Rattle.dom_semantics.specs.Forest.{form_at, is_element};
 
 use base_text::{Text, TextFault};
 use dom_tree::{NodeForm, NodeId, Tree, TreeFault};
-use door::Actor;
+use door::{Actor, PAGE};
 use std::alloc::Global;
 use std::process::Abort;
 use std::test::Fail;
-
-pub(crate) const HOST: Actor = Actor(0);
-
-pub(crate) const PAGE: Actor = Actor(1);
 
 /// What a call that only changes answers.
 pub(crate) type Done = Result<(), TreeFault>;
@@ -61,8 +57,8 @@ pub(crate) enum Step<'a> {
     NoAttribute(u32, u32),
 }
 
-fn text(alloc: Global, s: &str) -> Result<Text, TreeFault> {
-    match Text::of(alloc, s) {
+fn text(alloc: Global, data: &str) -> Result<Text, TreeFault> {
+    match Text::of(alloc, data) {
         Ok(text) => Ok(text),
         Err(TextFault::TooLong) => Err(TreeFault::TooLong),
         Err(TextFault::NoMemory) => Err(TreeFault::NoMemory),
@@ -130,7 +126,7 @@ fn copy(rt: &impl Abort, tree: &mut Tree, maker: Actor, node: u32, deep: bool) -
 fn insert(rt: &impl Abort, tree: &mut Tree, parent: u32, node: u32, before: Option<u32>) -> Done {
     let parent = known(rt, tree, parent);
     let node = known(rt, tree, node);
-    let before = before.map(|n| NodeId(n));
+    let before = before.map(|node| NodeId(node));
     tree.insert(parent, node, before)
 }
 

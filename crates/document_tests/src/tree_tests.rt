@@ -5,9 +5,9 @@ use crate::tree_steps::Step::{
     Attribute, Children, CloneNode, Count, Document, FirstChild, Insert, Make, NextSibling,
     NoAttribute, Parent, Remove, Set, Text, Unset, Write,
 };
-use crate::tree_steps::{Done, HOST, Made, PAGE, Step, run, run_on};
+use crate::tree_steps::{Done, Made, Step, run, run_on};
 use dom_tree::{Tree, TreeFault};
-use door::Actor;
+use door::{Actor, HOST, PAGE};
 use std::alloc::Global;
 use std::process::Abort;
 use std::test::Fail;
