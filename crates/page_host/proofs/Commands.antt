@@ -81,6 +81,3 @@ no_count items n words e is = let same : codes "gen" ∷ (items ∷ []) ≡ code
 pub flags_single : (plain after : List (List ℕ)) (word : List ℕ) (none : Bool) → (IsTrue none ↔ (plain ≡ [])) → none ≡ false → after ≡ word ∷ [] → {address : List ℕ} → plain ++ after ≡ address ∷ [] → ⊥
 flags_single [] after word none is fails one single = let yes = is.1 refl in cc
 flags_single (x ∷ plain) after word none is fails one {address} single = let same = ap length single in let lengths = length-append plain after in let last = ap length one in omega arith
-
-pub false_true : (b : Bool) → b ≡ false → IsTrue b → ⊥
-false_true b e h = cc

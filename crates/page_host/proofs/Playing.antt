@@ -6,7 +6,7 @@ use Rattle.std.specs.Prelude.{Option}
 use Rattle.std.specs.List.{flat_map}
 use Rattle.std.proofs.lemmas.Bool.Decides.{nat_tests}
 use Rattle.std.proofs.lemmas.List.{length-append, length-map}
-use Rattle.outside.specs.Contents.{AreDistinct}
+use Rattle.std.specs.String.{string_bytes}
 use Rattle.door.specs.declared.limits.TheConstants.{ADDRESS_LIMIT, USERSCRIPT_LIMIT}
 use Rattle.door.specs.declared.marks.Mark.{Mark}
 use Rattle.door.specs.declared.marks.Entry.TheVariants.{Script}
@@ -51,9 +51,10 @@ use Rattle.small_eval.specs.Pieces.{after_blocks, after_script, block_writes, he
 use Rattle.small_eval.specs.Turns.{AreUserscripts, file_texts}
 use Rattle.small_runs.specs.SmallGiven.{AllActsAreSolo, AreUserscripts as AreForms, IsSmall, given_of, input_of, log_grant, small_setups}
 use Rattle.page_host.specs.Address.{IsPlainAddress}
-use Rattle.page_host.specs.Loaded.{IsPlayed}
-use Rattle.page_host.specs.Scripts.{AreScripts, names_in, userscripts_in}
-use Rattle.page_host.specs.declared.play.Played.{Played}
+use Rattle.page_host.specs.Loaded.{IsFormed, IsPlayed}
+use Rattle.page_host.specs.Scripts.{AreScripts, userscripts_in}
+use Rattle.page_host.specs.declared.load.Loaded.{Loaded}
+use Rattle.page_host.specs.declared.run.Played.{Played}
 
 -- their whole texts
 abbrev pub texts_in : List Userscript → List (List ℕ)
@@ -197,14 +198,23 @@ forms_are (script ∷ scripts) h = (h.0, forms_are scripts h.1)
 pub address_short : (address : List ℕ) → IsPlainAddress address → utf8_len address ≤ ADDRESS_LIMIT
 address_short address plain = omega (arith, plain.short, four_bytes address)
 
+-- as many userscripts as files
+pub scripts_few : (loaded : Loaded) → IsFormed loaded → length loaded.scripts.items ≤ USERSCRIPT_LIMIT
+scripts_few loaded formed = omega (arith, formed.chosen.few, length-map loaded.scripts.items (λ (script : ScriptFile). string_bytes script.file))
+
 -- so what was played is right by the whole definitions
-pub all_played : WholeLaws → (address bytes : List ℕ) (page : Page) (scripts : List Userscript) (played : Played) → utf8_len address ≤ ADDRESS_LIMIT → IsPage bytes page → AreScripts scripts
-    → AreDistinct (names_in scripts) → length scripts ≤ USERSCRIPT_LIMIT → IsLawful (input_of (pieces_of page) scripts) played.journal.marks → IsGenuine played.journal.marks
-    → AllActsAreSolo address played.journal.marks → played.tree ≡ (stage_of played.journal.marks).nodes → IsPlayed address page scripts played
-all_played laws address bytes page scripts played short is_page are_scripts distinct few lawful genuine acts document =
+pub all_played : WholeLaws → (address : List ℕ) (loaded : Loaded) (played : Played) → utf8_len address ≤ ADDRESS_LIMIT → IsFormed loaded
+    → IsLawful (input_of (pieces_of loaded.page) (userscripts_in loaded.scripts.items)) played.journal.marks → IsGenuine played.journal.marks → AllActsAreSolo address played.journal.marks
+    → played.tree ≡ (stage_of played.journal.marks).nodes → IsPlayed address loaded played
+all_played laws address loaded played short formed lawful genuine acts document =
+    let page = loaded.page in
+    let scripts = userscripts_in loaded.scripts.items in
     let marks = played.journal.marks in
     let read = laws.reading.0 in
-    let is_small : IsSmall address scripts read = record { reading = laws.reading.1; short = short; few = few; forms = forms_are scripts are_scripts; names = distinct } in
+    let bytes = formed.paged.0 in
+    let is_page = formed.paged.1 in
+    let few : length scripts ≤ USERSCRIPT_LIMIT = rw (length-map loaded.scripts.items (λ (script : ScriptFile). script.script)) (scripts_few loaded formed) in
+    let is_small : IsSmall address scripts read = record { reading = laws.reading.1; short = short; few = few; forms = forms_are scripts formed.scripts_are; names = formed.distinct } in
     record {
       read_selector = read;
       right = laws.right address bytes page scripts read marks is_small is_page lawful genuine acts;

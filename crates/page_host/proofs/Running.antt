@@ -1,17 +1,14 @@
 -- What is refused on the way, and what is right at its end, where the folder tells its files.
 use Rattle.std.proofs.Common.{◌≡◌, ◌≢◌, ◌∙◌, ap, sym, refl, subst, ℕ, ◌≤◌, ◌<◌, ◌+◌, true, false, List, [], ◌∷◌, ◌⊎◌, inl, inr, codes, length, Option, Some, None, IfSome, IsErrOf, Err, arith}
-use Rattle.std.specs.Prelude.{encode_utf8_all}
 use Rattle.std.proofs.lemmas.List.{length-map}
 use Rattle.std.specs.List.{list_any}
 use Rattle.std.specs.String.{string_bytes}
 use Rattle.outside.specs.Contents.{AreDistinct, Files, content, AreNamesOf}
+use Rattle.door.specs.Record.{Record}
 use Rattle.door.specs.declared.limits.TheConstants.{USERSCRIPT_LIMIT}
 use Rattle.door.specs.declared.marks.Mark.{Mark}
 use Rattle.dom_semantics.specs.Forest.{Forest}
-use Rattle.dom_semantics.specs.StageOf.{stage_of}
-use Rattle.page_text.specs.Printed.{printed}
-use Rattle.solo_model.specs.Given as run
-use Rattle.solo_model.specs.Given.{setting_of}
+use Rattle.solo_model.specs.Right as journal
 use Rattle.small_forms.specs.Pages.{IsPage}
 use Rattle.small_forms.specs.declared.page.Page.{Page}
 use Rattle.small_forms.specs.declared.userscript.ScriptFile.{ScriptFile}
@@ -19,8 +16,8 @@ use Rattle.small_forms.specs.declared.userscript.Userscript.{Userscript}
 use Rattle.page_host.specs.Address.{IsPlainAddress}
 use Rattle.page_host.specs.Faults.{IsOneOf, IsRefusal, page_missing, status_of}
 use Rattle.page_host.specs.Names.{AreScriptsOf, IsScriptNames, is_events, counted}
-use Rattle.page_host.specs.Loaded.{AreChosen, AreChosenOf, IsFolderFault, IsFormed, IsLoaded, IsOutput, IsRefusedAt}
-use Rattle.page_host.specs.Printed.{document_of}
+use Rattle.page_host.specs.Loaded.{AreChosen, AreChosenOf, IsFolderFault, IsFormed, IsLoaded, IsOutput, IsPlayed, IsRefusedAt, run_of_loaded}
+use Rattle.page_host.specs.Printed.{document_of, printed_bytes}
 use Rattle.page_host.specs.Report.{report_of}
 use Rattle.page_host.specs.Run.{Given, IsRight, IsRightOver}
 use Rattle.page_host.specs.Scripts.{AreHeld, AreRead, AreScripts, files_in, names_in, userscripts_in}
@@ -28,9 +25,9 @@ use Rattle.page_host.specs.Steps.{AllWanted, Fits, IsFirstFault, IsRefused, Want
 use Rattle.page_host.specs.Words.{AreRead as AreReadWords, IsRunCommand}
 use Rattle.page_host.specs.declared.faults.HostFault.{HostFault}
 use Rattle.page_host.specs.declared.faults.HostFault.TheVariants.{Usage, PageRefused, ReadFault, WriteFault, NoMemory, TooManyScripts, NotYet}
-use Rattle.page_host.specs.declared.play.Played.{Played}
-use Rattle.page_host.specs.declared.run.Loaded.{Loaded}
-use Rattle.page_host.specs.declared.run.RunOutput.{RunOutput}
+use Rattle.page_host.specs.declared.host.RunOutput.{RunOutput}
+use Rattle.page_host.specs.declared.load.Loaded.{Loaded}
+use Rattle.page_host.specs.declared.run.Played.{Played}
 use Rattle.page_host.proofs.Folders.{the_eventless, the_files, the_held, the_names}
 use Rattle.page_host.proofs.NameLists.{eventful, eventless, folder_names, one_order}
 use Rattle.page_host.proofs.Refusals.{one_fault, no_fault}
@@ -206,11 +203,19 @@ unfolding IsFirstFault
 folder_refused words None address e is refused refusal = tt
 folder_refused words (Some files) address e is refused refusal = inr (are_read words address is, inr ((address, is.command, is.plain), refused refusal words))
 
--- the report of what was played and printed
-pub all_reported : (address : List ℕ) (files : List (List ℕ)) (given : run.Given) (played : Played) (document report : List ℕ) → played.tree ≡ (stage_of (setting_of given played.journal.marks) played.journal.marks).nodes
-    → document ≡ encode_utf8_all (printed played.tree 0) → report ≡ report_of address files document played.journal.marks → report ≡ report_of address files (document_of given played.journal.marks) played.journal.marks
-all_reported address files given played document report same printed_is report_is =
-    report_is ∙ ap (λ (bytes : List ℕ). report_of address files bytes played.journal.marks) (printed_is ∙ ap (λ (tree : Forest). encode_utf8_all (printed tree 0)) same)
+-- the report of what was played is right
+pub all_reported : (address : List ℕ) (loaded : Loaded) (played : Played) (output : RunOutput) → output.journal ≡ played.journal → IsPlayed address loaded played
+    → output.report.items ≡ report_of address (files_in loaded.scripts.items) (printed_bytes played.tree) played.journal.marks → IsOutput address loaded output
+all_reported address loaded played output same is report_is =
+    let files = files_in loaded.scripts.items in
+    let given = run_of_loaded address loaded is.read_selector in
+    let P : Record → Type 0 = λ j. journal.IsRight given j.marks in
+    let Q : Record → Type 0 = λ j. output.report.items ≡ report_of address files (document_of given j.marks) j.marks in
+    record {
+      read_selector = is.read_selector;
+      right = subst P (sym same) is.right;
+      reported = subst Q (sym same) (report_is ∙ ap (λ (tree : Forest). report_of address files (printed_bytes tree) played.journal.marks) is.document);
+    }
 
 right_of : (words : List (List ℕ)) (files : Files) (address : List ℕ) (loaded : Loaded) (output : RunOutput) → Addressed words address → IsFormed loaded → IsLoaded files loaded → IsOutput address loaded output → IsRight words files output.journal.marks output.report.items
 right_of words files address loaded output is formed told output_is = record {

@@ -7,8 +7,6 @@ use Rattle.dom_semantics.specs.StageOf.{stage_of}
 use Rattle.dom_semantics.specs.declared.selectors.Compound.{Compound}
 use Rattle.small_forms.specs.Pages.{IsPage}
 use Rattle.small_eval.specs.Pieces.{pieces_of}
-use Rattle.small_forms.specs.declared.page.Page.{Page}
-use Rattle.small_forms.specs.declared.userscript.Userscript.{Userscript}
 use Rattle.small_runs.specs.SmallGiven.{given_of}
 use Rattle.solo_model.specs.Given.{Given, setting_of}
 use Rattle.solo_model.specs.Right as journal
@@ -20,9 +18,9 @@ use Rattle.page_host.specs.Scripts.{AreHeld, AreScripts, files_in, names_in, use
 use Rattle.page_host.specs.Steps.{Step, IsFirstFault}
 use Rattle.page_host.specs.declared.faults.HostFault.{HostFault}
 use Rattle.page_host.specs.declared.faults.HostFault.TheVariants.{Usage, PageRefused, ReadFault, WriteFault, NoMemory, TooManyScripts, NotYet}
-use Rattle.page_host.specs.declared.play.Played.{Played}
-use Rattle.page_host.specs.declared.run.Loaded.{Loaded}
-use Rattle.page_host.specs.declared.run.RunOutput.{RunOutput}
+use Rattle.page_host.specs.declared.host.RunOutput.{RunOutput}
+use Rattle.page_host.specs.declared.load.Loaded.{Loaded}
+use Rattle.page_host.specs.declared.run.Played.{Played}
 
 -- a fault that reading a folder can come to
 abbrev pub IsFolderFault : HostFault → Type 0
@@ -62,15 +60,15 @@ pub record IsLoaded (files : Files) (loaded : Loaded) : Type 0 where
   pub paged : (bytes : List ℕ) × (content files (codes "page.html") ≡ Some bytes) × IsPage bytes loaded.page
   pub held : AreHeld files (files_in loaded.scripts.items) (userscripts_in loaded.scripts.items)
 
--- what was played at this address is right, and the tree is the document at its end
-pub record IsPlayed (address : List ℕ) (page : Page) (scripts : List Userscript) (played : Played) : Type 0 where
-  pub read_selector : List ℕ → Option (List (List Compound))
-  pub right : journal.IsRight (given_of address (pieces_of page) scripts read_selector) played.journal.marks
-  pub document : played.tree ≡ (stage_of (setting_of (given_of address (pieces_of page) scripts read_selector) played.journal.marks) played.journal.marks).nodes
-
 -- what a run at this address is given of it
 abbrev pub run_of_loaded : List ℕ → Loaded → (List ℕ → Option (List (List Compound))) → Given
 run_of_loaded address loaded read = given_of address (pieces_of loaded.page) (userscripts_in loaded.scripts.items) read
+
+-- what was played of it at this address is right, and the tree is the document at its end
+pub record IsPlayed (address : List ℕ) (loaded : Loaded) (played : Played) : Type 0 where
+  pub read_selector : List ℕ → Option (List (List Compound))
+  pub right : journal.IsRight (run_of_loaded address loaded read_selector) played.journal.marks
+  pub document : played.tree ≡ (stage_of (setting_of (run_of_loaded address loaded read_selector) played.journal.marks) played.journal.marks).nodes
 
 -- what is output of it is right
 pub record IsOutput (address : List ℕ) (loaded : Loaded) (output : RunOutput) : Type 0 where

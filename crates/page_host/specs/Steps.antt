@@ -57,7 +57,8 @@ IsFaultAt files BuiltScripts fault = fault ≡ NotYet
 -- the fault is that of the first of these steps that doesn't have what it wants
 unfoldable pub IsFirstFault : List (List ℕ) → Files → List Step → HostFault → Type 0
 IsFirstFault words files [] fault = ⊥
-IsFirstFault words files (step ∷ steps) fault = ((¬ Wants words files step) × IsFaultAt files step fault) ⊎ (Wants words files step × IsFirstFault words files steps fault)
+IsFirstFault words files (step ∷ steps) fault =
+    ((¬ Wants words files step) × IsFaultAt files step fault) ⊎ (Wants words files step × IsFirstFault words files steps fault)
 
 -- each of these steps has what it wants
 unfoldable pub AllWanted : List (List ℕ) → Files → List Step → Type 0

@@ -71,7 +71,8 @@ fn scripts_run_in_order(rt: HostRuntime) -> Result<(), Fail> {
             START,
             "script a\\\\b\\nc\\rd.user.js started\nlog page Hi\nlog page one1\nlog a\\\\b\\nc\\rd.user.js one2\ndocument\n",
             "<html><head><title>one2</title></head><body><p id=\"p\"></p><div id=\"d\"></div>",
-            "<script>console.log(document.title);\ndocument.title = \"one\";</script><script></script><script>console.log(document.title + 1);</script></body></html>",
+            "<script>console.log(document.title);\ndocument.title = \"one\";</script><script></script>",
+            "<script>console.log(document.title + 1);</script></body></html>",
             STORE,
             "7\n",
         ],
@@ -81,7 +82,7 @@ fn scripts_run_in_order(rt: HostRuntime) -> Result<(), Fail> {
 
 #[test]
 fn titles_are_told_without_runs_of_blanks(rt: HostRuntime) -> Result<(), Fail> {
-    for (title, told) in [("  a\t b ", "a b"), ("", ""), (" \t ", "")] {
+    for (title, logged) in [("  a\t b ", "a b"), ("", ""), (" \t ", "")] {
         let set = joined(rt.alloc(), &["document.title = \"", title, "\";"])?;
         let page = page_with(rt.alloc(), &[set.as_str()])?;
         let run = Run {
@@ -94,7 +95,7 @@ fn titles_are_told_without_runs_of_blanks(rt: HostRuntime) -> Result<(), Fail> {
             &[
                 START,
                 "script a.user.js started\nlog a.user.js ",
-                told,
+                logged,
                 "\ndocument\n<html><head><title>",
                 title,
                 "</title></head><body><p id=\"p\"></p><div id=\"d\"></div><script>document.title = \"",

@@ -1,32 +1,41 @@
 //! The bytes of the report.
 
-ghost use Rattle.page_host.specs.Report.{escaped, escaped_byte, fault_text, logged_line, mark_line, outcome_line, report_head, report_of, report_tail, request_line, script_line, stop_name, log_line, turns_in, who_of};
+ghost use Rattle.page_host.specs.Printed.{printed_bytes};
+ghost use Rattle.page_host.specs.Report.{escaped, escaped_byte, fault_text, log_line, logged_line, mark_line, outcome_line, report_head};
+ghost use Rattle.page_host.specs.Report.{report_of, report_tail, request_line, script_line, stop_name, turns_in, who_of};
 ghost use Rattle.page_host.specs.Scripts.{files_in};
-ghost use Rattle.std.specs.Prelude.{◌≡◌, ◌∷◌, ◌++◌, codes, IfOk, OnOk};
+ghost use Rattle.std.specs.Prelude.{◌≡◌, ◌<◌, ◌∷◌, ◌++◌, codes, length, IfOk, OnOk};
 ghost use Rattle.std.specs.Fmt.{decimal};
 ghost use Rattle.std.specs.List.{flat_map};
 ghost use Rattle.std.specs.Option.{option_copied};
 ghost use Rattle.std.specs.String.{string_bytes};
 
+use crate::load::Loaded;
+use crate::run::Played;
 use base_text::{Mem, Text};
-use door::{Actor, Journal, Mark, Member, Outcome, Request, StopKind, Value, Values};
+use dom_tree::NodeId;
+use door::{Actor, DOCUMENT, Journal, Mark, Member, Outcome, Request, StopKind, Value, Values};
+use page_text::print;
 use small_forms::ScriptFile;
 use std::alloc::{AllocError, Global};
 
-/// The report of a run at this address, of these userscripts, whose document is printed so.
-pub fn report(
-    alloc: Global,
-    address: &str,
-    scripts: &[ScriptFile],
-    document: &[u8],
-    journal: &Journal,
-) -> Mem<Vec<u8>>
-    ensures { IfOk result (λ report. report.items ≡ report_of address.now (files_in scripts.now) document.now journal.now.marks) }
+/// The report of a run at this address.
+pub fn report(alloc: Global, address: &str, loaded: &Loaded, played: &Played) -> Mem<Vec<u8>>
+    requires { 0 < length played.now.tree }
+    ensures { IfOk result (λ report. report.items ≡
+        report_of address.now (files_in loaded.now.scripts.items) (printed_bytes played.now.tree) played.now.journal.marks) }
 {
+    let scripts = loaded.scripts.as_slice();
+    let document = print(alloc, &played.tree, NodeId(DOCUMENT.number))?;
     let mut out = Vec::new(alloc);
     push_head(&mut out, address, scripts)?;
-    push_log(alloc, &mut out, scripts, journal)?;
-    push_tail(alloc, &mut out, document, turns_in(journal))?;
+    push_log(alloc, &mut out, scripts, &played.journal)?;
+    push_tail(
+        alloc,
+        &mut out,
+        document.as_slice(),
+        turns_in(&played.journal),
+    )?;
     Ok(out)
 }
 

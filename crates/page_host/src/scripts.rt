@@ -24,7 +24,8 @@ fn read_script<F: Folder>(
 ) -> Result<Userscript, HostFault>
     ensures held { IfOk result (λ script. IfSome (F.files folder.old) (λ files. content files file.now ≡ Some script.text)) }
     ensures form { IfOk result (λ script. IsScript script) }
-    ensures not_yet { IsErrOf result HostFault.NotYet → IfSome (F.files folder.old) (λ files. (script : OneScript) → content files file.now ≡ Some script.text → IsScript script → ⊥) }
+    ensures not_yet { IsErrOf result HostFault.NotYet → IfSome (F.files folder.old) (λ files.
+        (script : OneScript) → content files file.now ≡ Some script.text → IsScript script → ⊥) }
     ensures same { F.files folder.new ≡ F.files folder.old }
     ensures later { F.faults folder.old ≤ F.faults folder.new }
     ensures failed { IsErrOf result HostFault.ReadFault → Rose (F.faults folder.old) (F.faults folder.new) }
@@ -73,7 +74,8 @@ pub fn scripts_in<F: Folder>(
     ensures files { IfOk result (λ scripts. files_in scripts.items ≡ map string_bytes files.now) }
     ensures held { IfOk result (λ scripts. IfSome (F.files folder.old) (λ all. AreHeld all (map string_bytes files.now) (userscripts_in scripts.items))) }
     ensures forms { IfOk result (λ scripts. AreScripts (userscripts_in scripts.items) × AreDistinct (names_in (userscripts_in scripts.items))) }
-    ensures not_yet { IsErrOf result HostFault.NotYet → IfSome (F.files folder.old) (λ all. (scripts : List OneScript) → AreRead all (map string_bytes files.now) scripts → ⊥) }
+    ensures not_yet { IsErrOf result HostFault.NotYet → IfSome (F.files folder.old) (λ all.
+        (scripts : List OneScript) → AreRead all (map string_bytes files.now) scripts → ⊥) }
     ensures same { F.files folder.new ≡ F.files folder.old }
     ensures later { F.faults folder.old ≤ F.faults folder.new }
     ensures failed { IsErrOf result HostFault.ReadFault → Rose (F.faults folder.old) (F.faults folder.new) }

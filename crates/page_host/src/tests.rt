@@ -155,7 +155,11 @@ fn the_first_example_gives_its_report(rt: HostRuntime) -> Result<(), Fail> {
         &rt,
         run,
         &[
-            "pagehost 1\naddress http://example.com/\nscript a.user.js started\nlog a.user.js Hi\ndocument\n<html><head><title>Hi</title></head><body></body></html>\nstore\n{\"form\":1,\"stores\":[]}\nend 0 tasks 4\n",
+            START,
+            "script a.user.js started\nlog a.user.js Hi\ndocument\n",
+            PAGE,
+            STORE,
+            "4\n",
         ],
     )?;
     assert_eq!(rt; given.ended.journal.len(), 25);
@@ -321,7 +325,7 @@ fn sizes_are_told_to_the_byte(rt: HostRuntime) -> Result<(), Fail> {
 }
 
 #[test]
-fn other_forms_are_not_built_yet(rt: HostRuntime) -> Result<(), Fail> {
+fn other_pages_are_not_built_yet(rt: HostRuntime) -> Result<(), Fail> {
     let five = page_with(rt.alloc(), &["", "", "", "", ""])?;
     for page in [
         five.as_str(),
@@ -334,6 +338,11 @@ fn other_forms_are_not_built_yet(rt: HostRuntime) -> Result<(), Fail> {
     ] {
         refuses(&rt, Run { page, ..first(&[]) }, 14)?;
     }
+    Ok(())
+}
+
+#[test]
+fn other_userscripts_are_not_built_yet(rt: HostRuntime) -> Result<(), Fail> {
     for lines in [
         "GM_log(1000);\n",
         "GM_log(01);\n",

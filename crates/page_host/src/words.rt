@@ -1,10 +1,16 @@
-//! What the words of the command line ask for.
+//! The words of the command line, and the address that a run is asked for.
 
-ghost use Rattle.page_host.specs.Words.{AreRead, IsGenerateCommand, AreRunWords, IsCommand, begins_with_dash, flags, is_dashes, is_plain, plain_words};
-ghost use Rattle.std.specs.Prelude.{◌≡◌, ◌≢◌, ◌≤◌, ◌↔◌, List, ℕ, [], ◌∷◌, ◌++◌, codes, filter, if◌then◌else◌, length, map, Bool, IfNone, IfSome, IsTrue};
+ghost use Rattle.page_host.specs.Address.{IsPlainAddress};
+ghost use Rattle.page_host.specs.Steps.{AreUnbuilt};
+ghost use Rattle.page_host.specs.Words.{AreRead, AreRunWords, IsCommand, IsGenerateCommand, IsRunCommand};
+ghost use Rattle.page_host.specs.Words.{begins_with_dash, is_dashes, is_plain};
+ghost use Rattle.std.specs.Prelude.{◌≡◌, ◌≢◌, ◌⊎◌, ◌≤◌, ◌↔◌, List, ℕ, [], ◌∷◌, ◌++◌, codes, false, filter};
+ghost use Rattle.std.specs.Prelude.{if◌then◌else◌, length, map, Bool, IfErr, IfNone, IfOk, IfSome, IsErrOf, IsTrue};
 ghost use Rattle.std.specs.List.{after_first, before_first, position_or_len};
 ghost use Rattle.std.specs.String.{string_bytes};
 
+use crate::address::is_plain_address;
+use crate::faults::HostFault;
 use small_forms::number_in;
 
 /// What the words of the command line ask for.
@@ -16,8 +22,28 @@ pub enum Command<'a> {
     Generate { items: u16 },
 }
 
-/// Reads the words of the command line. `None` exactly where they are no command.
-pub fn read_words(words: &[String]) -> Option<Command<'_>>
+/// Reads the words: the address of a run, where it is of the form that is read yet, and no trace is wanted.
+pub fn read_words(words: &[String]) -> Result<&str, HostFault>
+    ensures ok { IfOk result (λ address. IsRunCommand (map string_bytes words.now) address.now false × IsPlainAddress address.now) }
+    ensures usage { IsErrOf result HostFault.Usage ↔ ¬ AreRead (map string_bytes words.now) }
+    ensures not_yet { IsErrOf result HostFault.NotYet → AreUnbuilt (map string_bytes words.now) }
+    ensures other { IfErr result (λ e. (e ≡ HostFault.Usage) ⊎ (e ≡ HostFault.NotYet)) }
+{
+    match command_in(words) {
+        None => Err(HostFault::Usage),
+        Some(Command::Run { address, trace }) => {
+            if !trace && is_plain_address(address) {
+                Ok(address)
+            } else {
+                Err(HostFault::NotYet)
+            }
+        }
+        Some(Command::Generate { .. }) => Err(HostFault::NotYet),
+    }
+}
+
+/// The command that the words are. `None` exactly where they are none.
+fn command_in(words: &[String]) -> Option<Command<'_>>
     ensures some { IfSome result (λ command. IsCommand (map string_bytes words.now) command) }
     ensures none { IfNone result (AreRead (map string_bytes words.now) → ⊥) }
 {
@@ -25,13 +51,13 @@ pub fn read_words(words: &[String]) -> Option<Command<'_>>
         return None;
     };
     match command.as_str() {
-        "run" => read_run(rest),
-        "gen" => read_generate(rest),
+        "run" => run_command(rest),
+        "gen" => generate_command(rest),
         _ => None,
     }
 }
 
-fn read_run(words: &[String]) -> Option<Command<'_>>
+fn run_command(words: &[String]) -> Option<Command<'_>>
     ensures some { IfSome result (λ command. IsCommand (codes "run" ∷ map string_bytes words.now) command) }
     ensures none { IfNone result ((address : List ℕ) (trace : Bool) → AreRunWords (map string_bytes words.now) address trace → ⊥) }
 {
@@ -45,7 +71,7 @@ fn read_run(words: &[String]) -> Option<Command<'_>>
     Some(Command::Run { address, trace })
 }
 
-fn read_generate(words: &[String]) -> Option<Command<'_>>
+fn generate_command(words: &[String]) -> Option<Command<'_>>
     ensures some { IfSome result (λ command. IsCommand (codes "gen" ∷ map string_bytes words.now) command) }
     ensures none { IfNone result ((n : ℕ) → IsGenerateCommand (codes "gen" ∷ map string_bytes words.now) n → ⊥) }
 {

@@ -1,7 +1,8 @@
 use Rattle.std.proofs.Common.{◌≡◌, ◌∙◌, sym, ap, true, inl, inr, add-one}
 use Rattle.std.specs.String.{string_bytes}
 use Rattle.page_host.specs.Words.{begins_with_dash}
-use Rattle.page_host.proofs.Commands.{filter_about, filter_more, no_flags, flags_more, false_true}
+use Rattle.small_forms.proofs.Options.{false_true}
+use Rattle.page_host.proofs.Commands.{filter_about, filter_more, no_flags, flags_more}
 use Rattle.page_host.proofs.words.trace_in.Goals.{then-trace-via-then-trace, then-trace-via-else-trace+then-not-is_trace, then-has_dash+else-trace+else-not-is_trace, else-has_dash}
 use Rattle.page_host.proofs.words.trace_in.Goals as goal
 

@@ -1,6 +1,6 @@
 use Rattle.std.proofs.lemmas.Result.{err_from_is_err_and}
 use Rattle.page_host.proofs.Running.{form_refused, unread_refused}
-use Rattle.page_host.proofs.run.load_page.Goals as goal
+use Rattle.page_host.proofs.load.load_page.Goals as goal
 
 pub returns-in_err-bytes-clause-refused : goal.returns-in_err-bytes-clause-refused
 returns-in_err-bytes-clause-refused g c =

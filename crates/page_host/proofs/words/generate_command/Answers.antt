@@ -2,7 +2,7 @@ use Rattle.std.proofs.Common.{◌∙◌, sym, ap, arith, codes, ◌∷◌}
 use Rattle.std.specs.String.{string_bytes}
 use Rattle.std.proofs.lemmas.Fmt.{decimal_injective}
 use Rattle.page_host.proofs.Commands.{one_word, no_count}
-use Rattle.page_host.proofs.words.read_generate.Goals as goal
+use Rattle.page_host.proofs.words.generate_command.Goals as goal
 
 pub returns-else-items-ge1-clause-none : goal.returns-else-items-ge1-clause-none
 returns-else-items-ge1-clause-none c n is =
