@@ -13,7 +13,7 @@ returns-in-Err-clause-refused g c =
 
 pub returns-in-Err-clause-complete : goal.returns-in-Err-clause-complete
 returns-in-Err-clause-complete g c =
-    err_complete (map string_bytes c.args.words.now) (g.F.Folder.files c.args.folder.now) c.in-Err.fault c.status.result (Rose (g.F.Folder.faults c.args.folder.now) (g.F.Folder.faults c.run.new.folder))
+    err_complete (map string_bytes c.args.words.now) (g.F.Folder.files c.args.folder.now) c.in-Err.fault c.status.result (Rose (g.F.Folder.faults c.args.folder.now) (g.F.Folder.faults c.run_to_report.new.folder))
     (Rose (g.S.Sink.faults c.args.out.now) (g.S.Sink.faults c.args.out.now)) c.status.ensures c.in-Err.ensures.refused (λ is. c.in-Err.ensures.unwritten (ap (λ e. Err e) is)) (λ is. c.in-Err.ensures.failed (ap (λ e. Err e) is))
 
 pub returns-in-Err-clause-sofar : goal.returns-in-Err-clause-sofar
@@ -25,7 +25,7 @@ returns-in-Ok-clause-refused g c =
 
 pub returns-in-Ok-clause-complete : goal.returns-in-Ok-clause-complete
 returns-in-Ok-clause-complete g c =
-    ok_complete (map string_bytes c.args.words.now) (g.F.Folder.files c.args.folder.now) c.write_report.result.status (Rose (g.F.Folder.faults c.args.folder.now) (g.F.Folder.faults c.run.new.folder))
+    ok_complete (map string_bytes c.args.words.now) (g.F.Folder.files c.args.folder.now) c.write_report.result.status (Rose (g.F.Folder.faults c.args.folder.now) (g.F.Folder.faults c.run_to_report.new.folder))
     (Rose (g.S.Sink.faults c.args.out.now) (g.S.Sink.faults c.write_report.new.out)) c.write_report.ensures.answers c.write_report.ensures.write
 
 pub returns-in-Ok-clause-right : goal.returns-in-Ok-clause-right
