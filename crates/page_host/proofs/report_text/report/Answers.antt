@@ -1,4 +1,4 @@
-use Rattle.std.proofs.Common.{◌≡◌, ◌∙◌, ap, ◌++◌, []}
+use Rattle.std.proofs.Common.{◌≡◌, ◌++◌, []}
 use Rattle.page_host.specs.Printed.{printed_bytes}
 use Rattle.page_host.specs.Report.{mark_line, report_head, report_tail, turns_in}
 use Rattle.page_host.specs.Scripts.{files_in}
